@@ -12,7 +12,8 @@ use Rattle.std.specs.declared.result.Result.the-variants.{Ok, Err}
 use Rattle.std.proofs.shelf.Tests.{and-parts, and-from, and-left, and-right, cases-eq}
 use Rattle.ledger.specs.Grounds.{demand, ask, all-to}
 
-never : {X Y F : Type 0} (e : F) (y : Y) → _≡_ {A = Result Y F} (Err e) (Ok y) → X
+-- what was refused was not accepted
+pub never : {X Y F : Type 0} (e : F) (y : Y) → _≡_ {A = Result Y F} (Err e) (Ok y) → X
 never e y h = let z : _≡_ {A = ℕ} 0 1 = cc in absurd (omega arith)
 
 pub demanded : {Y F : Type 0} (b : Bool) (e : F) (r : Result Y F) (y : Y) → demand b e r ≡ Ok y → (b ≡ true) × (r ≡ Ok y)

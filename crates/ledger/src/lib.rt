@@ -1,1 +1,12 @@
 //! Sharing, registers, calendar and tables: what a book of accounts needs and that knows nothing of gas.
+mod largest_remainder_rule;
+mod rule;
+mod running_rule;
+
+pub use largest_remainder_rule::LargestRemainderRule;
+pub use largest_remainder_rule::LargestRemainderShare;
+pub use rule::ShareFault;
+pub use rule::ShareRule;
+pub use rule::one_outcome;
+pub use running_rule::RunningRule;
+pub use running_rule::RunningShare;
