@@ -1,7 +1,7 @@
 -- What is known where nothing was refused.
 use Prim.Native.Nat.{ℕ, zero, suc, _+_, _<_}
 use mathlib.Core.Path.{_≡_, refl, sym, ap, _∙_}
-use mathlib.Core.Bool.{Bool, true, false, _&&_}
+use mathlib.Core.Bool.{Bool, true, false, not, _&&_}
 use mathlib.Core.Logic.{⊎-elim}
 use native.Mathlib.Omega.{arith}
 use native.Mathlib.Numerals.{add-one}
@@ -23,6 +23,10 @@ demanded false e r y h = never e y h
 pub asked : {X Y F : Type 0} (o : Option X) (e : F) (k : X → Result Y F) (y : Y) → ask o e k ≡ Ok y → (x : X) × (o ≡ Some x) × (k x ≡ Ok y)
 asked (Some x) e k y h = (x, refl, h)
 asked None e k y h = never e y h
+
+pub off : (b : Bool) → not b ≡ true → b ≡ false
+off true h = sym h
+off false h = refl
 
 -- a test of each number below n
 pub all-fails : (p : ℕ → Bool) (n k : ℕ) → k < n → p k ≡ false → all-to n p ≡ false

@@ -1,6 +1,9 @@
 pub mod Grounds
 pub mod Largest
+pub mod Lawful
 pub mod Limits
+pub mod Outcomes
 pub mod Ranks
 pub mod Running
+pub mod SameSide
 pub mod Signs

@@ -14,10 +14,9 @@ use Rattle.std.proofs.shelf.Tests.{and-parts, leb-true, eqb-true}
 use Rattle.std.proofs.shelf.Ways.{tells}
 use Rattle.ledger.specs.Laws.{Shares, in-limits, most-total, most-weights, most-weight-sum, nothing-to-share-by}
 use Rattle.ledger.specs.Sharing.{Shared, unless-refused}
-use Rattle.ledger.specs.Grounds.{demand}
-use Rattle.ledger.specs.declared.rule.ShareFault.{ShareFault}
-use Rattle.ledger.specs.declared.rule.ShareFault.the-variants.{OutsideLimits, NothingToShareBy}
-use Rattle.ledger.proofs.Grounds.{demanded, never}
+use Rattle.ledger.specs.Grounds.{told}
+use Rattle.ledger.proofs.Grounds.{demanded}
+use Rattle.ledger.proofs.Outcomes.{accepts, takes}
 
 pub record Limited (t : ℤ) (ws : List ℕ) : Type 0 where
   pub total-small : natAbs t ≤ most-total
@@ -59,14 +58,9 @@ pub record Accepted (t : ℤ) (ws : List ℕ) (places : ℕ) : Type 0 where
 
 pub accepted : {Y : Type 0} (t : ℤ) (ws : List ℕ) (places : ℕ) (x y : Y) → unless-refused nothing-to-share-by t ws places x ≡ Ok y → Accepted t ws places
 accepted t ws places x y h =
-    let a = demanded _ _ _ _ h in
-    let b = and-parts _ _ (a .0) in
-    let c = demanded (not (nothing-to-share-by t ws)) _ _ _ (a .1) in
-    record { limits = limited t ws (b .0); long = eqb-true _ _ (b .1); divides = divisible t ws (off (nothing-to-share-by t ws) (c .0)) }
-  where
-    off : (b : Bool) → not b ≡ true → b ≡ false
-    off true k = sym k
-    off false k = refl
+    let a = demanded (in-limits t ws && eqb places (length ws)) _ _ _ h in
+    let k = takes nothing-to-share-by t ws places x y h in
+    record { limits = limited t ws (k .0); long = eqb-true _ _ (and-parts _ _ (a .0) .1); divides = divisible t ws (k .1) }
 
 -- the same, with the size and the divisor that both rules take
 pub record Ready (t : ℤ) (ws : List ℕ) (places w s d : ℕ) : Type 0 where
@@ -76,23 +70,14 @@ pub record Ready (t : ℤ) (ws : List ℕ) (places w s d : ℕ) : Type 0 where
   pub divisor : d ≡ max (sum ws) 1
   pub size-small : s ≤ most-total
 
--- an accepted call answers y
-same-answer : {X Y : Type 0} (t : ℤ) (ws : List ℕ) (places : ℕ) (x z : X) (y : Y) → unless-refused nothing-to-share-by t ws places x ≡ Ok z → unless-refused nothing-to-share-by t ws places y ≡ Ok y
-same-answer t ws places x z y h = go (in-limits t ws && eqb places (length ws)) (nothing-to-share-by t ws) h
-  where
-    go : (a b : Bool) → demand a OutsideLimits (demand (not b) NothingToShareBy (Ok x)) ≡ Ok z → demand a OutsideLimits (demand (not b) NothingToShareBy (Ok y)) ≡ Ok y
-    go true false k = refl
-    go true true k = never _ _ k
-    go false b k = never _ _ k
-
 pub ready : (t : ℤ) (ws : List ℕ) (places w s d : ℕ) → unless-refused nothing-to-share-by t ws places (sum ws) ≡ Ok w → s ≡ natAbs t → d ≡ max w 1 → Ready t ws places w s d
 ready t ws places w s d h es ed =
     let a = accepted t ws places (sum ws) w h in
-    let e : sum ws ≡ w = cc (h, same-answer t ws places (sum ws) w (sum ws) h) in
+    let e : sum ws ≡ w = cc (h, accepts nothing-to-share-by t ws places (sum ws) (sum ws) (ap told h)) in
     record { answered = h; accepted = a; size = es; divisor = ed ∙ ap (λ n. max n 1) (sym e); size-small = omega (arith, es, a .limits .total-small) }
 
 -- a call that was accepted and left its shares
 pub shared-by : {t : ℤ} {ws : List ℕ} {w s d : ℕ} {shares : Shares} {before after : List ℤ} → Ready t ws (length before) w s d → after ≡ shares t ws → Shared nothing-to-share-by shares t ws before after (Ok tt)
 shared-by {t} {ws} {w} {s} {d} {shares} {before} k e =
-    let o = same-answer t ws (length before) (sum ws) w (shares t ws) (k .answered) in
+    let o = accepts nothing-to-share-by t ws (length before) (sum ws) (shares t ws) (ap told (k .answered)) in
     record { answered = rw o; left = rw o e }
