@@ -10,3 +10,6 @@ pub use rule::ShareRule;
 pub use rule::one_outcome;
 pub use running_rule::RunningRule;
 pub use running_rule::RunningShare;
+
+#[cfg(test)]
+mod rule_tests;
