@@ -1,6 +1,14 @@
+pub mod Calendar
 pub mod Grounds
+pub mod Largest
 pub mod Laws
+pub mod PlaceLaws
+pub mod Places
+pub mod Ranges
+pub mod Running
 pub mod Sharing
 pub mod Signs
-pub mod Running
-pub mod Largest
+pub mod SlotLaws
+pub mod Slots
+pub mod SumLaws
+pub mod Sums

@@ -10,6 +10,8 @@ use Rattle.std.specs.declared.result.Result.{Result}
 use Rattle.std.specs.declared.result.Result.the-variants.{Ok}
 use Rattle.ledger.specs.Grounds.{demand, told, on-ok}
 use Rattle.ledger.specs.Laws.{Refuses, Shares, in-limits}
+use Rattle.ledger.specs.declared.layer.Layer.{Layer}
+use Rattle.ledger.specs.declared.layer.Layer.the-variants as layer
 use Rattle.ledger.specs.declared.rule.ShareFault.{ShareFault}
 use Rattle.ledger.specs.declared.rule.ShareFault.the-variants.{OutsideLimits, NothingToShareBy}
 
@@ -17,6 +19,11 @@ use Rattle.ledger.specs.declared.rule.ShareFault.the-variants.{OutsideLimits, 
 abbrev pub number-of : ShareFault → ℕ
 number-of OutsideLimits = 6
 number-of NothingToShareBy = 20
+
+-- and their layers
+abbrev pub layer-of : ShareFault → Layer
+layer-of OutsideLimits = layer.Book
+layer-of NothingToShareBy = layer.Rule
 
 -- the first ground met, or y: the limits, with a place for each share, come before the rule's own refusal
 abbrev pub unless-refused : {Y : Type 0} → Refuses → ℤ → List ℕ → ℕ → Y → Result Y ShareFault

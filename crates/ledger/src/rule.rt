@@ -9,8 +9,9 @@ ghost use lib.ListN.{length};
 ghost use Rattle.std.specs.declared.option.Option.the-variants.{Some, None};
 ghost use Rattle.std.specs.shelf.Lists.{sum};
 ghost use Rattle.ledger.specs.Laws.{One-share-each, Refuses-only-without-weight, Shares-add-up, Shares-are-proportional, Shares-keep-their-side, in-limits, most-weight-sum, nothing-to-share-by};
-ghost use Rattle.ledger.specs.Sharing.{One-outcome, Shared, number-of, unless-refused};
+ghost use Rattle.ledger.specs.Sharing.{One-outcome, Shared, layer-of, number-of, unless-refused};
 ghost use Rattle.ledger.specs.Signs.{signed};
+use crate::layer::Layer;
 
 /// The largest total, either way.
 const MAX_TOTAL: u64 = 50_000_000;
@@ -21,7 +22,7 @@ const MAX_WEIGHTS: usize = 400;
 const MAX_WEIGHT_SUM: u64 = 87_840_000_000;
 
 /// Why a total is not shared.
-#[derive(Clone, Copy, PartialEq, Eq, Debug)]
+#[derive(Clone, Copy)]
 pub enum ShareFault {
     /// The total, the number of weights or their sum is outside its limits, or there is not one place for each share.
     OutsideLimits,
@@ -37,6 +38,16 @@ impl ShareFault {
         match self {
             ShareFault::OutsideLimits => 6,
             ShareFault::NothingToShareBy => 20,
+        }
+    }
+
+    /// The layer that refuses.
+    pub fn layer(self) -> Layer
+        ensures { λ r. ⌜ r ≡ layer-of self ⌝ }
+    {
+        match self {
+            ShareFault::OutsideLimits => Layer::Book,
+            ShareFault::NothingToShareBy => Layer::Rule,
         }
     }
 }
@@ -63,11 +74,9 @@ pub trait ShareRule {
 }
 
 /// The contract of `share` leaves no choice: it pins the answer and the slice.
-pub fn one_outcome() -> bool
+pub fn one_outcome()
     ensures { λ _. ⌜ One-outcome ⌝ }
-{
-    true
-}
+{}
 
 /// The weights' sum, unless it passes the limit.
 fn limited_sum(weights: &[u64]) -> Option<u64>

@@ -1,9 +1,9 @@
 //! Both share rules on worked figures and on both sides of each limit.
-use crate::largest_remainder_rule::LargestRemainderRule;
-use crate::largest_remainder_rule::LargestRemainderShare;
-use crate::rule::ShareRule;
-use crate::running_rule::RunningRule;
-use crate::running_rule::RunningShare;
+use ledger::LargestRemainderRule;
+use ledger::LargestRemainderShare;
+use ledger::RunningRule;
+use ledger::RunningShare;
+use ledger::ShareRule;
 use std::test::*;
 
 /// That a rule gives just these shares.
@@ -20,7 +20,12 @@ fn gives<R: ShareRule>(rule: &R, total: i64, weights: &[u64], shares: &[i64]) ->
 }
 
 /// The number that a rule answers, 0 where it shares. Refused, all places hold 7 still.
-fn number<R: ShareRule>(rule: &R, total: i64, weights: &[u64], out: &mut [i64]) -> Result<u8, Fail> {
+fn number<R: ShareRule>(
+    rule: &R,
+    total: i64,
+    weights: &[u64],
+    out: &mut [i64],
+) -> Result<u8, Fail> {
     out.fill(7);
     match rule.share(total, weights, out) {
         Ok(()) => Ok(0),
