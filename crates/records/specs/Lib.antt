@@ -1,0 +1,10 @@
+pub mod Text
+pub mod Numbers
+pub mod Faults
+pub mod Format
+pub mod Lines
+pub mod Outcome
+pub mod Refused
+pub mod Exact
+pub mod Progress
+pub mod Examples
