@@ -11,7 +11,12 @@ use ledger::ShareFault;
 use ledger::ShareRule;
 
 /// Shares a quantity among users, and adds the users' column up again: whichever the rule, the sum is the quantity.
-pub fn share_and_add<R: ShareRule>(rule: &R, quantity: i64, weights: &[u64], column: &mut [i64]) -> Result<i64, ShareFault>
+pub fn share_and_add<R: ShareRule>(
+    rule: &R,
+    quantity: i64,
+    weights: &[u64],
+    column: &mut [i64],
+) -> Result<i64, ShareFault>
     ensures answer { λ r. ⌜ r ≡ unless-refused nothing-to-share-by quantity (now (weights .entry)) (length (now (column .entry))) quantity ⌝ }
     ensures left { λ _. ⌜ now (column .exit) ≡ on-ok (outcome (R·ShareRule .refuses (now (rule .entry))) (R·ShareRule .shares (now (rule .entry))) quantity (now (weights .entry)) (length (now (column .entry)))) (λ given. given) (now (column .entry)) ⌝ }
 {
@@ -32,8 +37,6 @@ fn add_up(column: &[i64]) -> i64
 }
 
 /// The worked figures follow from the definitions.
-pub fn worked_figures() -> bool
+pub fn worked_figures()
     ensures { λ _. ⌜ Worked-figures ⌝ }
-{
-    true
-}
+{}
