@@ -1,0 +1,4 @@
+pub mod Drafted
+pub mod Kept
+pub mod Ladders
+pub mod Long

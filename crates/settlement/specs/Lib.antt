@@ -1,0 +1,9 @@
+pub mod Limits
+pub mod Faults
+pub mod Classes
+pub mod Keys
+pub mod State
+pub mod Shape
+pub mod Drafting
+pub mod DayRecords
+pub mod Calls

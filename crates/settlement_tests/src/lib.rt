@@ -1,0 +1,21 @@
+//! Tests of the settlement book by its public calls.
+#[cfg(test)]
+mod daily_quantities;
+#[cfg(test)]
+mod factors;
+#[cfg(test)]
+mod measurements;
+#[cfg(test)]
+mod new_book;
+#[cfg(test)]
+mod owner;
+#[cfg(test)]
+mod points;
+#[cfg(test)]
+mod prints;
+#[cfg(test)]
+mod small_book;
+#[cfg(test)]
+mod statements;
+#[cfg(test)]
+mod trades;
