@@ -2,10 +2,6 @@
 #[cfg(test)]
 mod daily_quantities;
 #[cfg(test)]
-mod factors;
-#[cfg(test)]
-mod measurements;
-#[cfg(test)]
 mod new_book;
 #[cfg(test)]
 mod owner;
@@ -17,5 +13,3 @@ mod prints;
 mod small_book;
 #[cfg(test)]
 mod statements;
-#[cfg(test)]
-mod trades;
