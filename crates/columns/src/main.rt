@@ -1,5 +1,7 @@
 //! columns: shares a measured quantity and unidentified gas among users by both share rules, adds the users' columns up
 //! again, and says whether each column equals what was shared.
+#![tactic(auto)]
+
 use ledger::{LargestRemainderRule, RunningRule, ShareRule};
 use quantities::share_and_add;
 use std::io;

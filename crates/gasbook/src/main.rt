@@ -1,5 +1,7 @@
 //! gasbook: reads records from standard input into a book, and prints a line for each one that is refused. How many
 //! were accepted and refused goes to standard error, apart from the listing.
+#![tactic(auto)]
+
 mod desk;
 mod store;
 

@@ -1,4 +1,6 @@
 //! Sharing, registers, calendar and tables: what a book of accounts needs and that knows nothing of gas.
+#![tactic(auto)]
+
 pub mod calendar;
 mod largest_remainder_rule;
 mod layer;

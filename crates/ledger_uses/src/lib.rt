@@ -1,4 +1,6 @@
 //! A record of another crate in a register.
+#![tactic(auto)]
+
 ghost use Rattle.std.specs.Prelude.{◌≡◌};
 ghost use Rattle.ledger.specs.SlotLaws.{RegisterLaws};
 ghost use Rattle.ledger.specs.Slots.{put_answer, put_after, found, taken_out};

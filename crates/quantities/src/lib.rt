@@ -1,4 +1,6 @@
 //! Quantities of gas: what a user's share of a measured quantity is, by any share rule.
+#![tactic(auto)]
+
 ghost use Rattle.std.specs.Prelude.{◌≡◌, ℕ, ◌≤◌, length, take, ℤ, unsigned_abs};
 ghost use Rattle.ledger.specs.Grounds.{on_ok};
 ghost use Rattle.ledger.specs.Laws.{most_total, nothing_to_share_by, sumℤ};

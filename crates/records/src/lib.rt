@@ -1,4 +1,6 @@
 //! The exact text reader: records as lines of text, and the faults of a text.
+#![tactic(auto)]
+
 ghost use Rattle.records.specs.Exact.{Apart};
 ghost use Rattle.records.specs.Examples.{Examples};
 

@@ -1,4 +1,6 @@
 //! The settlement book.
+#![tactic(auto)]
+
 mod book;
 mod counts;
 mod day_records;

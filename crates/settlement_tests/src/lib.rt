@@ -1,4 +1,6 @@
 //! Tests of the settlement book by its public calls.
+#![tactic(auto)]
+
 #[cfg(test)]
 mod daily_quantities;
 #[cfg(test)]

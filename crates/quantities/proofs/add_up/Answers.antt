@@ -4,8 +4,8 @@ use Rattle.ledger.specs.Laws.{sumℤ}
 use Rattle.ledger.proofs.SameSide.{sum_more}
 use Rattle.quantities.proofs.add_up.Goals as goal
 
-pub overflow-add-sum : goal.overflow-add-sum
-overflow-add-sum c =
+pub overflow_add-sum : goal.overflow_add-sum
+overflow_add-sum c =
     let i = c.loop-x.x-index in
     omega (arith, ints, c.loop-x.invariant, c.requires (i + 1), sum_more c.args.column.now i c.loop-x-test.true)
 

@@ -3,11 +3,11 @@ use Rattle.ledger.specs.Largest.{floors}
 use Rattle.ledger.specs.LargestLemmas.{small_product, floors_more, floors_front}
 use Rattle.ledger.proofs.largest_remainder_rule.floors_sum.Goals as goal
 
-pub overflow-mul-given : goal.overflow-mul-given
-overflow-mul-given c = omega (arith, small_product c.requires.small c.loop-w.w-index c.loop-w-test.true)
+pub overflow_mul-given : goal.overflow_mul-given
+overflow_mul-given c = omega (arith, small_product c.requires.small c.loop-w.w-index c.loop-w-test.true)
 
-pub overflow-add-given : goal.overflow-add-given
-overflow-add-given c =
+pub overflow_add-given : goal.overflow_add-given
+overflow_add-given c =
     let ws = c.args.weights.now in
     let i = c.loop-w.w-index in
     omega (arith, c.loop-w.invariant, c.requires.enough, c.requires.small.size_small, floors_more c.args.size c.args.divisor ws i c.loop-w-test.true, floors_front c.args.size c.args.divisor ws (i + 1))

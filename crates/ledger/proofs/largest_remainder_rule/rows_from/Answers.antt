@@ -5,8 +5,8 @@ use Rattle.ledger.specs.LargestLemmas.{small_product, count_yes, count_no}
 use Rattle.ledger.proofs.largest_remainder_rule.rows_from.Goals as goal
 use Rattle.ledger.proofs.largest_remainder_rule.rows_from.Goals.{then-size-w, else-size-w}
 
-pub overflow-mul-size : goal.overflow-mul-size
-overflow-mul-size c = omega (arith, small_product c.requires c.loop-w.w-index c.loop-w-test.true)
+pub overflow_mul-size : goal.overflow_mul-size
+overflow_mul-size c = omega (arith, small_product c.requires c.loop-w.w-index c.loop-w-test.true)
 
 pub loop-w-preserved : goal.loop-w-preserved
 loop-w-preserved c =

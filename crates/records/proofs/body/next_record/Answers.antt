@@ -15,13 +15,13 @@ returns-then-text-eq0 c =
     let a = next_none c.args.text.now c.args.line c.if-text-eq0.true in
     record { answer = a; exact = exactly c.args.text.now c.args.line (Ok None) a }
 
-pub returns-in-err-taken : goal.returns-in-err-taken
-returns-in-err-taken c =
-    let p = err_from_is_err_and c.from-residual.result c.from-residual.ensures.1 in
-    let a = is c.args.text.now c.args.line (Err c.in-err-taken.field-0.0) c.from-residual.result c.if-text-eq0.false c.in-err-taken.ensures (p.1 ∙ ap (λ x. Err x) p.2) in
-    record { answer = a; exact = exactly c.args.text.now c.args.line c.from-residual.result a }
+pub returns-in_err-taken : goal.returns-in_err-taken
+returns-in_err-taken c =
+    let p = err_from_is_err_and c.from_residual.result c.from_residual.ensures.1 in
+    let a = is c.args.text.now c.args.line (Err c.in_err-taken.field-0.0) c.from_residual.result c.if-text-eq0.false c.in_err-taken.ensures (p.1 ∙ ap (λ x. Err x) p.2) in
+    record { answer = a; exact = exactly c.args.text.now c.args.line c.from_residual.result a }
 
 pub returns : goal.returns
 returns c =
-    let a = is c.args.text.now c.args.line (Ok c.in-ok-taken.taken) (Ok (Some c.in-ok-taken.taken)) c.if-text-eq0.false c.in-ok-taken.ensures refl in
-    record { answer = a; exact = exactly c.args.text.now c.args.line (Ok (Some c.in-ok-taken.taken)) a }
+    let a = is c.args.text.now c.args.line (Ok c.in_ok-taken.taken) (Ok (Some c.in_ok-taken.taken)) c.if-text-eq0.false c.in_ok-taken.ensures refl in
+    record { answer = a; exact = exactly c.args.text.now c.args.line (Ok (Some c.in_ok-taken.taken)) a }

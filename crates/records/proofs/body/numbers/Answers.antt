@@ -5,9 +5,9 @@ use Rattle.records.specs.declared.fault.TextFault.TheVariants.{MalformedValue}
 use Rattle.records.proofs.Steps.{values_more, values_bad, values_all}
 use Rattle.records.proofs.body.numbers.Goals as goal
 
-pub returns-in-default : goal.returns-in-default
-returns-in-default c =
-    (c.line.result, values_bad c.args.lines.now c.loop-i.i c.loop-i.out c.loop-i.invariant _ (omega arith) (c.in-default.ensures.answer ∙ ap number_of c.value.ensures) ∙ ap Some (sym c.line.ensures), refl)
+pub returns-in_default : goal.returns-in_default
+returns-in_default c =
+    (c.line.result, values_bad c.args.lines.now c.loop-i.i c.loop-i.out c.loop-i.invariant _ (omega arith) (c.in_default.ensures.answer ∙ ap number_of c.value.ensures) ∙ ap Some (sym c.line.ensures), refl)
 
 pub loop-i-preserved : goal.loop-i-preserved
 loop-i-preserved c =

@@ -10,14 +10,14 @@ use Rattle.records.proofs.body.record_at.Goals as goal
 same : (r : Record) (n m l : ℕ) → m ≡ length (written r) → l ≡ 1 + length (keys (kind_of r)) → ◌≡◌ {A = Result Taken TextFault} (Ok (record { read = r; line = n; bytes = m; lines = l })) (Ok (taken n r))
 same r n m l p q = cc
 
-pub overflow-sub-result : goal.overflow-sub-result
-overflow-sub-result c =
-    let w = next_read c.args.text.now c.args.line c.in-ok-kind.kind c.in-ok-kind.rest.now c.in-ok-read.left.now c.in-ok-read.read c.in-ok-kind.ensures c.in-ok-read.ensures in
+pub overflow_sub-result : goal.overflow_sub-result
+overflow_sub-result c =
+    let w = next_read c.args.text.now c.args.line c.in_ok-kind.kind c.in_ok-kind.rest.now c.in_ok-read.left.now c.in_ok-read.read c.in_ok-kind.ensures c.in_ok-read.ensures in
     omega arith
 
 pub returns : goal.returns
 returns c =
-    let w = next_read c.args.text.now c.args.line c.in-ok-kind.kind c.in-ok-kind.rest.now c.in-ok-read.left.now c.in-ok-read.read c.in-ok-kind.ensures c.in-ok-read.ensures in
+    let w = next_read c.args.text.now c.args.line c.in_ok-kind.kind c.in_ok-kind.rest.now c.in_ok-read.left.now c.in_ok-read.read c.in_ok-kind.ensures c.in_ok-read.ensures in
     let k = c.keys.ensures.count ∙ ap (λ x. length (keys x)) (sym w.1) in
-    let b : length c.args.text.now - length c.in-ok-read.left.now ≡ length (written c.in-ok-read.read) = omega arith in
-    same c.in-ok-read.read c.args.line _ _ b (ap (λ x. 1 + x) k) ∙ sym w.2
+    let b : length c.args.text.now - length c.in_ok-read.left.now ≡ length (written c.in_ok-read.read) = omega arith in
+    same c.in_ok-read.read c.args.line _ _ b (ap (λ x. 1 + x) k) ∙ sym w.2

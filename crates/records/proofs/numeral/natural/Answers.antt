@@ -22,11 +22,11 @@ returns-then-d-lt48 c n s e =
 under : (ds : List ℕ) (i n : ℕ) → i < length ds → length ds ≤ 11 → AllDigits 10 (take i ds) × (n ≡ digits_value 10 (take i ds)) → n < 10 ^ 10
 under ds i n l s h = let t = length-take-le i ds (omega arith) in let v = value_under (take i ds) 10 h.0 (omega arith) in omega arith
 
-pub overflow-mul-n : goal.overflow-mul-n
-overflow-mul-n c = let l = under c.args.digits.now c.loop-d.d-index c.loop-d.n (omega arith) (omega arith) c.loop-d.invariant in search rules
+pub overflow_mul-n : goal.overflow_mul-n
+overflow_mul-n c = let l = under c.args.digits.now c.loop-d.d-index c.loop-d.n (omega arith) (omega arith) c.loop-d.invariant in search rules
 
-pub overflow-add-n : goal.overflow-add-n
-overflow-add-n c = let l = under c.args.digits.now c.loop-d.d-index c.loop-d.n (omega arith) (omega arith) c.loop-d.invariant in search rules
+pub overflow_add-n : goal.overflow_add-n
+overflow_add-n c = let l = under c.args.digits.now c.loop-d.d-index c.loop-d.n (omega arith) (omega arith) c.loop-d.invariant in search rules
 
 more : (ds : List ℕ) (i n d : ℕ) → i < length ds → AllDigits 10 (take i ds) × (n ≡ digits_value 10 (take i ds)) → 48 ≤ get_or ds i 0 → get_or ds i 0 ≤ 57 → d + 48 ≡ get_or ds i 0 → AllDigits 10 (take (i + 1) ds) × (n * 10 + d ≡ digits_value 10 (take (i + 1) ds))
 more ds i n d l h lo hi e =

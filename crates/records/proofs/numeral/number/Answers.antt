@@ -6,9 +6,9 @@ use Rattle.records.proofs.Decimals.{plain_none, minus_none, minus_zero, minus_so
 use Rattle.records.proofs.numeral.number.Goals as goal
 use Rattle.records.proofs.numeral.number.Goals.{else-value-gt0-via-then-value-gt0+else-value-eq45, else-value-gt0-via-else-value-gt0}
 
-pub returns-in-default : goal.returns-in-default
-returns-in-default c =
-    let h : Natural (drop 1 c.args.value.now) None = simp take_rest at c.in-default.ensures in
+pub returns-in_default : goal.returns-in_default
+returns-in_default c =
+    let h : Natural (drop 1 c.args.value.now) None = simp take_rest at c.in_default.ensures in
     let x = minus_none c.args.value.now (omega arith) c.if-value-eq45.true h in
     record { exact = x; answer = exact_answer c.args.value.now None x }
 
@@ -29,10 +29,10 @@ returns-then-value-eq45 c =
     let x = as_int _ _ _ e (minus_some c.args.value.now (omega arith) c.if-value-eq45.true c.in-Some.n (omega arith) g) in
     record { exact = x; answer = exact_answer c.args.value.now (Some (to_z w64 (of_z w64 (pos 0 -ℤ to_z w64 c.in-Some.n)))) x }
 
-pub returns-in-default-natural : goal.returns-in-default-natural
-returns-in-default-natural c =
+pub returns-in_default-natural : goal.returns-in_default-natural
+returns-in_default-natural c =
     let x =
-    plain_none c.args.value.now c.in-default-natural.ensures (λ l h.
+    plain_none c.args.value.now c.in_default-natural.ensures (λ l h.
     elim c.else-value-gt0.branch [ else-value-gt0-via-then-value-gt0+else-value-eq45 w ↦ w.if-value-eq45.false h | else-value-gt0-via-else-value-gt0 w ↦ omega arith ]) in
     record { exact = x; answer = exact_answer c.args.value.now None x }
 

@@ -9,10 +9,10 @@ use Rattle.ledger.proofs.largest_remainder_rule.LargestRemainderRuleShareRule.sh
 use Rattle.ledger.proofs.largest_remainder_rule.LargestRemainderRuleShareRule.share.Goals.{After-max-divisor}
 
 -- what is known once the call is accepted
-known : (c : goal.After-max-divisor) → Ready c.args.total c.args.weights.now (length c.args.out.now) c.in-ok-sum.sum c.unsigned-abs-size.result c.max-divisor.result
+known : (c : goal.After-max-divisor) → Ready c.args.total c.args.weights.now (length c.args.out.now) c.in_ok-sum.sum c.unsigned_abs-size.result c.max-divisor.result
 known c =
     let back = to_z-of_z w64 c.args.total c.ranges.total in
-    ready _ _ _ _ _ _ (sym (simp back at c.in-ok-sum.ensures)) (simp back at c.unsigned-abs-size.ensures.value) c.max-divisor.ensures
+    ready _ _ _ _ _ _ (sym (simp back at c.in_ok-sum.ensures)) (simp back at c.unsigned_abs-size.ensures.value) c.max-divisor.ensures
 
 module _ {t : ℤ} {ws : List ℕ} {n w s d : ℕ} (k : Ready t ws n w s d) where
   none : sum ws ≡ 0 → s ≡ 0
@@ -32,29 +32,29 @@ module _ {t : ℤ} {ws : List ℕ} {n w s d : ℕ} (k : Ready t ws n w s d) wher
   portion_fits : (i : ℕ) → i < length ws → get_or (portions s d ws) i 0 ≤ most_total
   portion_fits i l = rw k.divisor (omega (arith, safe_portion_le s ws i none l, k.size_small))
 
-pub floors-sum-requires : goal.floors-sum-requires
-floors-sum-requires c = record { small = small (known c); enough = floors_fit (known c) }
+pub floors_sum-requires : goal.floors_sum-requires
+floors_sum-requires c = record { small = small (known c); enough = floors_fit (known c) }
 
-pub overflow-sub-left : goal.overflow-sub-left
-overflow-sub-left c = omega (arith, c.floors-sum.ensures, floors_fit (known (goal.at.overflow-sub-left c).After-max-divisor))
+pub overflow_sub-left : goal.overflow_sub-left
+overflow_sub-left c = omega (arith, c.floors_sum.ensures, floors_fit (known (goal.at.overflow_sub-left c).After-max-divisor))
 
 pub portion-requires : goal.portion-requires
 portion-requires c = record {
   small = small (known (goal.at.portion-requires c).After-max-divisor);
-  rest = ap (λ n. c.unsigned-abs-size.result - n) c.floors-sum.ensures;
+  rest = ap (λ n. c.unsigned_abs-size.result - n) c.floors_sum.ensures;
   within = c.loop-i-test.true;
 }
 
-pub with-sign-requires : goal.with-sign-requires
-with-sign-requires c = omega (arith, c.portion.ensures, portion_fits (known (goal.at.with-sign-requires c).After-max-divisor) c.loop-i.i c.loop-i-test.true)
+pub with_sign-requires : goal.with_sign-requires
+with_sign-requires c = omega (arith, c.portion.ensures, portion_fits (known (goal.at.with_sign-requires c).After-max-divisor) c.loop-i.i c.loop-i-test.true)
 
 pub loop-i-preserved : goal.loop-i-preserved
 loop-i-preserved c =
     let k = known (goal.at.loop-i-preserved c).After-max-divisor in
     let ws = c.args.weights.now in
     let there : c.loop-i.i < length c.loop-i.out = omega (arith, k.accepted.long) in
-    let within : c.loop-i.i < length (portions c.unsigned-abs-size.result c.max-divisor.result ws) = omega (arith, length_portions c.unsigned-abs-size.result c.max-divisor.result ws) in
-    filled_more _ _ c.loop-i.out c.loop-i.i _ there within (to_z-of_z w64 c.with-sign.result (record { sfits = c.with-sign.type-inv }) ∙ c.with-sign.ensures ∙ ap (signed _) c.portion.ensures) c.loop-i.invariant
+    let within : c.loop-i.i < length (portions c.unsigned_abs-size.result c.max-divisor.result ws) = omega (arith, length_portions c.unsigned_abs-size.result c.max-divisor.result ws) in
+    filled_more _ _ c.loop-i.out c.loop-i.i _ there within (to_z-of_z w64 c.with_sign.result (record { sfits = c.with_sign.type_inv }) ∙ c.with_sign.ensures ∙ ap (signed _) c.portion.ensures) c.loop-i.invariant
 
 pub returns : goal.returns
 returns c =

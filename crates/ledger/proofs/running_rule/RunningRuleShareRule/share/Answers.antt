@@ -8,10 +8,10 @@ use Rattle.ledger.proofs.running_rule.RunningRuleShareRule.share.Goals as goal
 use Rattle.ledger.proofs.running_rule.RunningRuleShareRule.share.Goals.{After-max-divisor}
 
 -- what is known once the call is accepted
-known : (c : goal.After-max-divisor) → Ready c.args.total c.args.weights.now (length c.args.out.now) c.in-ok-sum.sum c.unsigned-abs-size.result c.max-divisor.result
+known : (c : goal.After-max-divisor) → Ready c.args.total c.args.weights.now (length c.args.out.now) c.in_ok-sum.sum c.unsigned_abs-size.result c.max-divisor.result
 known c =
     let back = to_z-of_z w64 c.args.total c.ranges.total in
-    ready _ _ _ _ _ _ (sym (simp back at c.in-ok-sum.ensures)) (simp back at c.unsigned-abs-size.ensures.value) c.max-divisor.ensures
+    ready _ _ _ _ _ _ (sym (simp back at c.in_ok-sum.ensures)) (simp back at c.unsigned_abs-size.ensures.value) c.max-divisor.ensures
 
 module _ {t : ℤ} {ws : List ℕ} {n w s d : ℕ} (k : Ready t ws n w s d) where
   -- the weights up to a row, and the total times them, stay within the limits
@@ -21,22 +21,22 @@ module _ {t : ℤ} {ws : List ℕ} {n w s d : ℕ} (k : Ready t ws n w s d) wher
   product : (r : ℕ) → r ≤ most_weight_sum → s * r ≤ most_total * most_weight_sum
   product r h = mul-le-mul k.size_small h
 
-pub overflow-add-reached : goal.overflow-add-reached
-overflow-add-reached c = omega (arith, reach (known (goal.at.overflow-add-reached c).After-max-divisor) c.loop-i.i c.loop-i.reached c.loop-i-test.true c.loop-i.invariant.0)
+pub overflow_add-reached : goal.overflow_add-reached
+overflow_add-reached c = omega (arith, reach (known (goal.at.overflow_add-reached c).After-max-divisor) c.loop-i.i c.loop-i.reached c.loop-i-test.true c.loop-i.invariant.0)
 
-pub overflow-mul-upto : goal.overflow-mul-upto
-overflow-mul-upto c =
-    let k = known (goal.at.overflow-mul-upto c).After-max-divisor in
+pub overflow_mul-upto : goal.overflow_mul-upto
+overflow_mul-upto c =
+    let k = known (goal.at.overflow_mul-upto c).After-max-divisor in
     omega (arith, product k _ (reach k c.loop-i.i c.loop-i.reached c.loop-i-test.true c.loop-i.invariant.0))
 
-pub overflow-sub-upto : goal.overflow-sub-upto
-overflow-sub-upto c = omega (arith, rises c.unsigned-abs-size.result c.max-divisor.result c.loop-i.reached (get_or c.args.weights.now c.loop-i.i 0), c.loop-i.invariant.1)
+pub overflow_sub-upto : goal.overflow_sub-upto
+overflow_sub-upto c = omega (arith, rises c.unsigned_abs-size.result c.max-divisor.result c.loop-i.reached (get_or c.args.weights.now c.loop-i.i 0), c.loop-i.invariant.1)
 
-pub with-sign-requires : goal.with-sign-requires
-with-sign-requires c =
-    let k = known (goal.at.with-sign-requires c).After-max-divisor in
+pub with_sign-requires : goal.with_sign-requires
+with_sign-requires c =
+    let k = known (goal.at.with_sign-requires c).After-max-divisor in
     let r = c.loop-i.reached + get_or c.args.weights.now c.loop-i.i 0 in
-    omega (arith, product k _ (reach k c.loop-i.i c.loop-i.reached c.loop-i-test.true c.loop-i.invariant.0), div-le_self (c.unsigned-abs-size.result * r) c.max-divisor.result)
+    omega (arith, product k _ (reach k c.loop-i.i c.loop-i.reached c.loop-i-test.true c.loop-i.invariant.0), div-le_self (c.unsigned_abs-size.result * r) c.max-divisor.result)
 
 pub loop-i-preserved : goal.loop-i-preserved
 loop-i-preserved c =
@@ -45,7 +45,7 @@ loop-i-preserved c =
     let i = c.loop-i.i in
     let within : i < length c.loop-i.out = omega (arith, k.accepted.long) in
     let e : c.loop-i.reached + get_or ws i 0 ≡ sum (take (i + 1) ws) = omega (arith, sum_by_more (λ x. x) ws i 0 c.loop-i-test.true, c.loop-i.invariant.0) in
-    (e, refl, running_more _ _ _ _ _ ws c.loop-i.out i _ _ c.loop-i-test.true within c.loop-i.invariant.1 (to_z-of_z w64 c.with-sign.result (record { sfits = c.with-sign.type-inv }) ∙ c.with-sign.ensures) c.loop-i.invariant.2)
+    (e, refl, running_more _ _ _ _ _ ws c.loop-i.out i _ _ c.loop-i-test.true within c.loop-i.invariant.1 (to_z-of_z w64 c.with_sign.result (record { sfits = c.with_sign.type_inv }) ∙ c.with_sign.ensures) c.loop-i.invariant.2)
 
 pub returns : goal.returns
 returns c =

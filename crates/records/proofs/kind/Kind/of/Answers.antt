@@ -5,11 +5,11 @@ use Rattle.records.specs.declared.kind.Kind.TheVariants as kind
 use Rattle.records.proofs.Table.{kind_at, no_kind, not_one}
 use Rattle.records.proofs.kind.Kind.of.Goals as goal
 
-pub returns-in-default : goal.returns-in-default
-returns-in-default c = not_one c.args.value.now (search rules)
+pub returns-in_default : goal.returns-in_default
+returns-in_default c = not_one c.args.value.now (search rules)
 
-pub returns-in-default·2 : goal.returns-in-default·2
-returns-in-default·2 c = not_one c.args.value.now (search rules)
+pub returns-in_default·2 : goal.returns-in_default·2
+returns-in_default·2 c = not_one c.args.value.now (search rules)
 
 pub returns-in-B : goal.returns-in-B
 returns-in-B c = kind_at c.args.value.now c.from.result kind.Book (search rules) c.from.ensures (ap (λ x. x ∷ []) c.in-B.is)
@@ -50,7 +50,7 @@ returns-in-R c = kind_at c.args.value.now c.from.result kind.Reading (search rul
 pub returns-in-M : goal.returns-in-M
 returns-in-M c = kind_at c.args.value.now c.from.result kind.CloseMonth (search rules) c.from.ensures (ap (λ x. x ∷ []) c.in-M.is)
 
-other : (c : goal.In-default-from) (k : Kind) → c.from.result ≡ get_or (letter k) 0 0 → ⊥
+other : (c : goal.In_default-from) (k : Kind) → c.from.result ≡ get_or (letter k) 0 0 → ⊥
 other c kind.Book h = omega arith
 other c kind.Point h = omega arith
 other c kind.Start h = omega arith
@@ -65,5 +65,5 @@ other c kind.CloseDay h = omega arith
 other c kind.Reading h = omega arith
 other c kind.CloseMonth h = omega arith
 
-pub returns-in-default-from : goal.returns-in-default-from
-returns-in-default-from c = no_kind c.args.value.now c.from.result (search rules) c.from.ensures (other c)
+pub returns-in_default-from : goal.returns-in_default-from
+returns-in_default-from c = no_kind c.args.value.now c.from.result (search rules) c.from.ensures (other c)

@@ -28,30 +28,30 @@ shorter s b n o x e h m =
     let f = length-drop (b + x.bytes) s in
     omega arith
 
-pub returns-in-err-taken : goal.returns-in-err-taken
-returns-in-err-taken c =
-    let p = err_from_is_err_and c.from-residual.result c.from-residual.ensures.1 in
-    let e = simp take_rest at c.in-err-taken.ensures in
+pub returns-in_err-taken : goal.returns-in_err-taken
+returns-in_err-taken c =
+    let p = err_from_is_err_and c.from_residual.result c.from_residual.ensures.1 in
+    let e = simp take_rest at c.in_err-taken.ensures in
     rw (p.1, p.2) (record { answer = e.answer; exact = e.exact; moved = record { rest = refl; number = refl; less = tt } })
 
-pub returns-in-default : goal.returns-in-default
-returns-in-default c =
-    let e = simp take_rest at c.in-ok-taken.ensures in
-    record { answer = ap (λ x. Ok x) (sym c.in-default.is) ∙ e.answer; exact = subst (λ x. Exactly (left c.args.self.now) (line_at c.args.self.now) (Ok x)) c.in-default.is e.exact; moved = record { rest = refl; number = refl; less = tt } }
+pub returns-in_default : goal.returns-in_default
+returns-in_default c =
+    let e = simp take_rest at c.in_ok-taken.ensures in
+    record { answer = ap (λ x. Ok x) (sym c.in_default.is) ∙ e.answer; exact = subst (λ x. Exactly (left c.args.self.now) (line_at c.args.self.now) (Ok x)) c.in_default.is e.exact; moved = record { rest = refl; number = refl; less = tt } }
 
-pub overflow-add-self-2 : goal.overflow-add-self-2
-overflow-add-self-2 c =
-    let e = simp take_rest at c.in-ok-taken.ensures in
+pub overflow_add-self-2 : goal.overflow_add-self-2
+overflow_add-self-2 c =
+    let e = simp take_rest at c.in_ok-taken.ensures in
     let l = inside c.args.self.now.text.now c.args.self.now.bytes _ _ _ c.in-Some.is e.exact (search rules) in
     search rules
 
-pub invariant-of-self : goal.invariant-of-self
-invariant-of-self c =
-    let e = simp take_rest at c.in-ok-taken.ensures in
+pub invariant_of-self : goal.invariant_of-self
+invariant_of-self c =
+    let e = simp take_rest at c.in_ok-taken.ensures in
     let l = inside c.args.self.now.text.now c.args.self.now.bytes _ _ _ c.in-Some.is e.exact (search rules) in
     search rules
 
 pub returns : goal.returns
 returns c =
-    let e = simp take_rest at c.in-ok-taken.ensures in
+    let e = simp take_rest at c.in_ok-taken.ensures in
     record { answer = ap (λ x. Ok x) (sym c.in-Some.is) ∙ e.answer; exact = subst (λ x. Exactly (left c.args.self.now) (line_at c.args.self.now) (Ok x)) c.in-Some.is e.exact; moved = record { rest = sym (drop-drop c.in-Some.taken.bytes c.args.self.now.bytes c.args.self.now.text.now); number = omega arith; less = shorter c.args.self.now.text.now c.args.self.now.bytes _ _ _ c.in-Some.is e.exact (search rules) } }

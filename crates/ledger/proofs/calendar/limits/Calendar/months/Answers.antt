@@ -2,13 +2,13 @@ use Rattle.std.proofs.Common.{◌≡◌, suc, ◌<◌, ◌≤◌, sym, ◌∙◌
 use Rattle.ledger.specs.Calendar.{first_day, whole_to, whole_months}
 use Rattle.ledger.proofs.Months.{whole_is, whole_few, whole_last, whole_next, whole_more, whole_stays}
 use Rattle.ledger.proofs.calendar.limits.Calendar.months.Goals as goal
-use Rattle.ledger.proofs.calendar.limits.Calendar.months.Goals.{then-end-day-self, else-end-day-self}
+use Rattle.ledger.proofs.calendar.limits.Calendar.months.Goals.{then-end_day-self, else-end_day-self}
 
 pub loop-m-preserved : goal.loop-m-preserved
 loop-m-preserved c =
-    elim c.if-end-day-self.branch [
-      | then-end-day-self w ↦ (omega (arith, w.whole-is, c.loop-m.invariant.0, whole_more c.args.self.year c.args.self.month c.args.self.days c.loop-m.m (omega (arith, c.end-day.ensures, w.if-end-day-self.true))), omega (arith, w.whole-is, c.loop-m.invariant.1))
-      | else-end-day-self w ↦ (omega (arith, w.whole-is, c.loop-m.invariant.0, whole_stays c.args.self.year c.args.self.month c.args.self.days c.loop-m.m (omega (arith, c.end-day.ensures, w.if-end-day-self.false))), omega (arith, w.whole-is, c.loop-m.invariant.1))
+    elim c.if-end_day-self.branch [
+      | then-end_day-self w ↦ (omega (arith, w.whole-is, c.loop-m.invariant.0, whole_more c.args.self.year c.args.self.month c.args.self.days c.loop-m.m (omega (arith, c.end_day.ensures, w.if-end_day-self.true))), omega (arith, w.whole-is, c.loop-m.invariant.1))
+      | else-end_day-self w ↦ (omega (arith, w.whole-is, c.loop-m.invariant.0, whole_stays c.args.self.year c.args.self.month c.args.self.days c.loop-m.m (omega (arith, c.end_day.ensures, w.if-end_day-self.false))), omega (arith, w.whole-is, c.loop-m.invariant.1))
     ]
 
 pub returns : goal.returns
