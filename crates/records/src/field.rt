@@ -48,7 +48,7 @@ impl<'t> Field<'t> {
         ensures { result ≡ bytes_eq (key_of self.entry) wanted.now }
     {
         match self {
-            Field::Kind { .. } => b"kind" == wanted,
+            Field::Kind { .. } => b"kind".as_slice() == wanted,
             Field::Number { key, .. } => key == wanted,
         }
     }
@@ -76,7 +76,7 @@ pub(crate) fn first_field(text: &[u8], line: usize) -> Result<(Field<'_>, &[u8])
     let Some((key, value)) = split(first, b'=') else {
         return Err(TextFault::WrongKey { line });
     };
-    if key == b"kind" {
+    if key == b"kind".as_slice() {
         return Ok((Field::Kind { line, value }, rest));
     }
     Ok((Field::Number { line, key, value }, rest))

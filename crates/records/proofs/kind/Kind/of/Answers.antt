@@ -8,8 +8,8 @@ use Rattle.records.proofs.kind.Kind.of.Goals as goal
 pub returns-in_default : goal.returns-in_default
 returns-in_default c = not_one c.args.value.now (search rules)
 
-pub returns-in_default·2 : goal.returns-in_default·2
-returns-in_default·2 c = not_one c.args.value.now (search rules)
+pub returns-in_default-2 : goal.returns-in_default-2
+returns-in_default-2 c = not_one c.args.value.now (search rules)
 
 pub returns-in-B : goal.returns-in-B
 returns-in-B c = kind_at c.args.value.now c.from.result kind.Book (search rules) c.from.ensures (ap (λ x. x ∷ []) c.in-B.is)
