@@ -92,5 +92,5 @@ pub record Begun {R : Type 0} (d : Draft R) (v : Live R) : Type 0 where
 
 -- a draft is started, or the very same draft is handed back
 abbrev pub Started : {R : Type 0} → Draft R → Result (Unit {0}) Fault → Result (Live R) (Draft R × Fault) → Type 0
-Started d ground (Ok v) = (ground ≡ Ok tt) × Begun d v
-Started d ground (Err p) = (ground ≡ Err p.1) × (p.0 ≡ d)
+Started d answer (Ok v) = (answer ≡ Ok tt) × Begun d v
+Started d answer (Err p) = (answer ≡ Err p.1) × (p.0 ≡ d)

@@ -9,4 +9,4 @@ bounds-t-row g c = (point_row (sizes c.args.self.now.counts) (drafted c.args.sel
 pub invariant_of-self : goal.invariant_of-self
 invariant_of-self g c =
     let l = (point_row (sizes c.args.self.now.counts) (drafted c.args.self.now c.args.t.now) c.args.p _ (sym c.in_ok-point.ensures)).0 in
-    (omega arith, tt)
+    record { few = omega arith }
