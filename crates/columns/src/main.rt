@@ -10,9 +10,9 @@ use std::io;
 fn print_column(rt: &HostRuntime, column: &[i64]) -> io::Result<()> {
     for (i, share) in column.iter().enumerate() {
         if i > 0 {
-            print!(rt, ",")?;
+            print!(rt; ",")?;
         }
-        print!(rt, "{share}")?;
+        print!(rt; "{share}")?;
     }
     Ok(())
 }
@@ -27,7 +27,7 @@ fn print_shared<R: ShareRule>(
 ) -> io::Result<()> {
     match share_and_add(rule, quantity, weights, column) {
         Ok(sum) => {
-            print!(rt, "  quantity={quantity} shares=")?;
+            print!(rt; "  quantity={quantity} shares=")?;
             print_column(rt, column)?;
             let columns = if sum == quantity {
                 "equal"

@@ -27,6 +27,7 @@ fn daily_rows(
 ) -> Result<(), Fail> {
     for (day, point, quantity, answer, place) in rows {
         let new = row_after!(
+            rt,
             t,
             daily_quantities,
             *place,

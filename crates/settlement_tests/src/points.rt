@@ -45,7 +45,7 @@ fn add(
     answer: u8,
     row: usize,
 ) -> Result<(), Fail> {
-    let new = row_after!(t, points, row, draft.point(t, p), answer);
+    let new = row_after!(rt, t, points, row, draft.point(t, p), answer);
     assert!(rt; answer != 0 || is_point(new, p));
     Ok(())
 }

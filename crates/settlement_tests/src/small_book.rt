@@ -50,15 +50,15 @@ pub(crate) fn small_book(rt: &impl Abort, t: &mut Tables<'_>) -> Result<Live<Run
 
 /// Makes a call, sees that it is answered so and that nothing changed but, where it is accepted, one row, and gives the row.
 macro_rules! row_after {
-    ($t:expr, $table:ident, $row:expr, $call:expr, $answer:expr) => {{
+    ($rt:expr, $t:expr, $table:ident, $row:expr, $call:expr, $answer:expr) => {{
         let before = print($t);
         let old = at($t.$table, $row);
-        check_eq(number($call), $answer)?;
+        assert_eq!($rt; number($call), $answer);
         let new = at($t.$table, $row);
         if $answer == 0 {
             write($t.$table, $row, old);
         }
-        check_eq(print($t), before)?;
+        assert_eq!($rt; print($t), before);
         write($t.$table, $row, new);
         new
     }};

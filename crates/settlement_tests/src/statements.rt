@@ -36,6 +36,7 @@ fn statement_rows(
 ) -> Result<(), Fail> {
     for (day, entry, user, quantity, answer, place) in rows {
         let new = row_after!(
+            rt,
             t,
             statements,
             *place,
