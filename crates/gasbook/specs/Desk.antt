@@ -1,5 +1,5 @@
 -- What the program's desk answers to a record, and what lies on it then.
-use Rattle.std.specs.Prelude.{ℕ, Bool, true, false, ℤ, pos, negsuc, Some, None, Ok, Err, Option, Result, nat_le}
+use Rattle.std.specs.Prelude.{Bool, true, false, ℤ, pos, negsuc, Some, None, Err, Option, Result, nat_le}
 use Rattle.ledger.specs.Grounds.{demand, on_ok, told}
 use Rattle.records.specs.declared.kind.Record.{Record}
 use Rattle.records.specs.declared.kind.Record.TheVariants as rec

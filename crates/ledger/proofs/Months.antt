@@ -1,5 +1,5 @@
 -- How long months are, and how many lie wholly inside a span.
-use Rattle.std.proofs.Common.{◌≡◌, ℕ, zero, suc, ◌+◌, ◌-◌, ◌*◌, ◌<◌, ◌≤◌, Bool, true, false, cond, ◌||◌, eqb, leb, sym, refl, ap, ◌∙◌, subst, ⊎_elim, le_trans, arith}
+use Rattle.std.proofs.Common.{◌≡◌, ℕ, zero, suc, ◌+◌, ◌-◌, ◌<◌, ◌≤◌, Bool, true, false, cond, ◌||◌, eqb, leb, sym, refl, ap, ◌∙◌, subst, ⊎_elim, le_trans, arith}
 use Rattle.std.proofs.lemmas.Bool.{cases_lt, cond_both, cond-true, cond-false, le-leb, lt-leb, leb-true}
 use Rattle.ledger.specs.Calendar.{is_leap, month_days, length_of, year_of, month_of, first_day, whole_to, whole_months}
 use Rattle.ledger.specs.Sums.{sum_to}

@@ -1,5 +1,5 @@
 -- The Gregorian calendar, and a span of days that begins on the first day of a month. In a year months count from 1; in a span days and months count from 0.
-use Rattle.std.specs.Prelude.{◌≡◌, ℕ, suc, ◌+◌, ◌-◌, ◌/◌, ◌%◌, Bool, true, false, cond, not, ◌&&◌, ◌||◌, ◌⊎◌, ℤ, pos, negsuc, Some, None, Option, ◌==◌, nat_le}
+use Rattle.std.specs.Prelude.{◌≡◌, ℕ, suc, ◌+◌, ◌-◌, ◌/◌, ◌%◌, Bool, cond, not, ◌&&◌, ◌||◌, ◌⊎◌, ℤ, Some, None, Option, ◌==◌, nat_le}
 use Rattle.ledger.specs.Ranges.{in_range}
 use Rattle.ledger.specs.Sums.{sum_to}
 

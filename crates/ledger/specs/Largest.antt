@@ -1,5 +1,5 @@
 -- The largest-remainder rule: each row gets its part rounded down, and what is left goes, one unit each, to the rows of largest remainder.
-use Rattle.std.specs.Prelude.{ℕ, ◌+◌, ◌-◌, ◌*◌, ◌/◌, ◌%◌, ◌<◌, ◌≤◌, cond, ltb, List, [], ◌∷◌, map, length, ℤ, sum, count_by, nat_le, nat_lt, unsigned_abs}
+use Rattle.std.specs.Prelude.{ℕ, ◌+◌, ◌-◌, ◌*◌, ◌/◌, ◌%◌, ◌<◌, ◌≤◌, cond, ltb, List, [], ◌∷◌, map, length, sum, count_by, nat_le, nat_lt, unsigned_abs}
 use Rattle.ledger.specs.Laws.{Shares, most_total, most_weights, most_weight_sum}
 use Rattle.ledger.specs.Signs.{signed}
 

@@ -10,7 +10,7 @@ use Rattle.ledger.specs.Largest.{Small, largest, portions, floors, remainders, e
 use Rattle.ledger.specs.Signs.{signed}
 use Rattle.ledger.specs.Ranks.{above, one_if, sum_extras, length_extras, extra_le, extra_none, extra_at}
 use Rattle.ledger.specs.Limits.{Divisible}
-use Rattle.ledger.specs.SignsLemmas.{Near, Parts, lawful_parts}
+use Rattle.ledger.specs.SignsLemmas.{Parts, lawful_parts}
 
 -- ---- row by row
 length_rows : (xs ys : List ℕ) → length xs ≡ length ys → length (row_by_row xs ys) ≡ length xs

@@ -1,7 +1,7 @@
 -- The two ways a call of a share rule can go, and what is known on each.
-use Rattle.std.specs.Prelude.{◌≡◌, ℕ, Bool, true, false, not, ◌&&◌, List, length, ℤ, Ok, Err, Result, ◌==◌, refl}
+use Rattle.std.specs.Prelude.{◌≡◌, ℕ, Bool, true, false, not, ◌&&◌, List, length, ℤ, Ok, Err, ◌==◌, refl}
 use Rattle.std.proofs.Common.{sym, ap, ◌∙◌}
-use Rattle.std.proofs.lemmas.Bool.{and_parts, eqb-true}
+use Rattle.std.proofs.lemmas.Bool.{and_parts}
 use Rattle.ledger.specs.Grounds.{demand, told, on_ok}
 use Rattle.ledger.specs.Laws.{Refuses, Shares, Takes, in_limits}
 use Rattle.ledger.specs.Sharing.{Shared, outcome, unless_refused}

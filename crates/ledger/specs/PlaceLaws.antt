@@ -1,5 +1,5 @@
 -- Where the places of a table lie, and what is found in it after a write.
-use Rattle.std.specs.Prelude.{◌≡◌, ℕ, ◌+◌, ◌*◌, ◌<◌, ◌≤◌, cond, ◌&&◌, List, length, set, ℤ, sum_by, ◌==◌, ◌≢◌, slice_index_or, slice_set}
+use Rattle.std.specs.Prelude.{◌≡◌, ℕ, ◌+◌, ◌*◌, ◌<◌, ◌≤◌, cond, ◌&&◌, List, length, ℤ, sum_by, ◌==◌, ◌≢◌, slice_index_or, slice_set}
 use Rattle.ledger.specs.Places.{at2, at3, line, with_line, with_lines, put_line_after}
 use Rattle.ledger.specs.Sums.{sum_to, sumℤ_to, sumℤ_by}
 

@@ -1,5 +1,5 @@
 -- The running rule: a row gets what the total's part up to it grows by.
-use Rattle.std.specs.Prelude.{ℕ, ◌+◌, ◌-◌, ◌*◌, ◌/◌, List, [], ◌∷◌, map, ℤ, sum, unsigned_abs}
+use Rattle.std.specs.Prelude.{ℕ, ◌+◌, ◌-◌, ◌*◌, ◌/◌, List, [], ◌∷◌, map, sum, unsigned_abs}
 use Rattle.ledger.specs.Laws.{Shares}
 use Rattle.ledger.specs.Signs.{signed}
 

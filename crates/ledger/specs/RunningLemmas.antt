@@ -1,16 +1,15 @@
 -- The running rule keeps the laws, and what a loop over the rows does is what it means.
-use Rattle.std.specs.Prelude.{◌≡◌, ℕ, zero, suc, ◌+◌, ◌-◌, ◌*◌, ◌/◌, ◌%◌, ◌<◌, ◌≤◌, max, List, [], ◌∷◌, ◌++◌, map, length, take, drop, ℤ, pos, negsuc, ◌+ℤ◌, ◌-ℤ◌, ◌*ℤ◌, neg_ℤ, ◌≤ℤ◌, sum, slice_index, slice_set, unsigned_abs, refl}
-use Rattle.std.proofs.Common.{sym, ap, ◌∙◌, subst, arith, mul-add, add-zero, zero-add, zero-mul, mul-zero, mul-div_cancel, div-add-mod', mod-lt, add-mul, div-mul-le_self}
+use Rattle.std.specs.Prelude.{◌≡◌, ℕ, zero, suc, ◌+◌, ◌-◌, ◌*◌, ◌/◌, ◌<◌, ◌≤◌, max, List, [], ◌∷◌, ◌++◌, map, length, take, drop, ℤ, sum, slice_index, slice_set, unsigned_abs, refl}
+use Rattle.std.proofs.Common.{sym, ap, ◌∙◌, arith, mul-add, add-zero, zero-add, zero-mul, mul-zero, mul-div_cancel, div-add-mod', mod-lt, add-mul, div-mul-le_self}
 use Rattle.std.proofs.Math.Nat.{zero-div, div-zero}
-use Rattle.std.proofs.lemmas.List.{length-map, get_or-map, append-nil, append_assoc, take_all, take_more_set, drop_all, drop_more}
+use Rattle.std.proofs.lemmas.List.{append-nil, append_assoc, take_all, take_more_set, drop_all, drop_more}
 use Rattle.std.proofs.lemmas.List.Sums.{sum_by-cons}
-use Rattle.std.proofs.lemmas.Int.{ints}
 use Rattle.std.proofs.lemmas.Nat.{le-div}
 use Rattle.ledger.specs.Laws.{Lawful, nothing_to_share_by}
 use Rattle.ledger.specs.Running.{running, growths}
 use Rattle.ledger.specs.Signs.{signed}
 use Rattle.ledger.specs.Limits.{Divisible}
-use Rattle.ledger.specs.SignsLemmas.{Near, Parts, lawful_parts}
+use Rattle.ledger.specs.SignsLemmas.{Near, lawful_parts}
 
 -- ---- the growths
 pub length_growths : (s w c : ℕ) (xs : List ℕ) → length (growths s w c xs) ≡ length xs

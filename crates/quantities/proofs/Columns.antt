@@ -1,8 +1,8 @@
 -- A quantity that was shared out and its users' column, under any lawful rule.
 use Rattle.std.proofs.Common.{◌≡◌, ℕ, ◌≤◌, List, length, take, ℤ, nat_abs, Ok, Err, sym, ap, ◌∙◌, arith}
-use Rattle.ledger.specs.Grounds.{on_ok, told}
+use Rattle.ledger.specs.Grounds.{told}
 use Rattle.ledger.specs.Laws.{Lawful, Refuses, Shares, most_total, nothing_to_share_by, sumℤ}
-use Rattle.ledger.specs.Sharing.{Shared, outcome, unless_refused}
+use Rattle.ledger.specs.Sharing.{Shared, unless_refused}
 use Rattle.ledger.specs.declared.rule.ShareFault.{ShareFault}
 use Rattle.ledger.proofs.Lawful.{same_refusal}
 use Rattle.ledger.specs.Limits.{limited}

@@ -1,10 +1,10 @@
 -- What the reader answers, and what its parts answer, joined.
-use Rattle.std.proofs.Common.{◌≡◌, ℕ, zero, suc, ◌+◌, ◌-◌, ◌*◌, ◌^◌, ◌<◌, ◌≤◌, Bool, true, false, cond, ◌&&◌, List, [], ◌∷◌, ◌++◌, map, length, get_or, take, drop, ℤ, pos, Some, None, Ok, Err, codes, Option, Result, sym, refl, ap, ◌∙◌, subst, arith, Bor}
+use Rattle.std.proofs.Common.{◌≡◌, ℕ, ◌+◌, ◌*◌, ◌≤◌, Bool, true, false, List, [], ◌∷◌, ◌++◌, map, length, take, drop, ℤ, Some, None, Ok, Err, codes, Option, Result, sym, refl, ap, ◌∙◌, subst, arith, Bor}
 use Rattle.std.specs.List.{AllByRecursion as All}
-use Rattle.std.proofs.lemmas.List.{append_assoc, append-nil, append_cancel_left, length-map, length-append, length-take-le, drop_at}
+use Rattle.std.proofs.lemmas.List.{append-nil, append_cancel_left, length-map, length-append, length-take-le, drop_at}
 use Rattle.ledger.specs.Grounds.{demand, ask}
-use Rattle.records.specs.Text.{has, after}
-use Rattle.records.specs.Numbers.{Short, reading}
+use Rattle.records.specs.Text.{after}
+use Rattle.records.specs.Numbers.{Short}
 use Rattle.records.specs.Format.{keys, letter, kind_by, kind_of, numbers_in, made_of, line, body, written, Writable}
 use Rattle.records.specs.Lines.{value_in, is_field, seen, texts}
 use Rattle.records.specs.Outcome.{bad_key, values, past, bad_value, amount, unless, took, taken, read_as, outcome, some, next_of, sights}
@@ -16,7 +16,7 @@ use Rattle.records.specs.declared.field.Field.{Field}
 use Rattle.records.specs.declared.kind.Kind.{Kind}
 use Rattle.records.specs.declared.kind.Record.{Record}
 use Rattle.records.proofs.Table.{keys_bare, letter_bare, letter_kind, made_kind, made_firsts, made_again, numbers_count, kind_letter}
-use Rattle.records.proofs.Whole.{line_append, line_whole, line_parts, body_whole, body_parts, body_length, Readable, firsts_all}
+use Rattle.records.proofs.Whole.{line_append, line_whole, line_parts, body_whole, body_parts, body_length, firsts_all}
 
 -- what was not refused
 never : {X Y : Type 0} (e : TextFault) (y : Y) → ◌≡◌ {A = Result Y TextFault} (Err e) (Ok y) → X

@@ -1,5 +1,5 @@
 -- The reader takes just the texts of records, and refuses each other text on its ground.
-use Rattle.std.proofs.Common.{◌≡◌, ℕ, List, [], ◌∷◌, length, Some, None, Ok, Err, Option, Result, sym, refl, ap, subst, arith}
+use Rattle.std.proofs.Common.{◌≡◌, ℕ, List, [], ◌∷◌, length, Ok, Err, Option, Result, sym, refl, ap, subst, arith}
 use Rattle.records.specs.Exact.{Exactly, Grounded}
 use Rattle.records.specs.Outcome.{outcome, some, next_of}
 use Rattle.records.specs.declared.body.Taken.{Taken}

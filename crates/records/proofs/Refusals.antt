@@ -1,14 +1,13 @@
 -- Each refusal is its ground, and each ground is refused.
-use Rattle.std.proofs.Common.{◌≡◌, ℕ, zero, suc, ◌+◌, ◌<◌, ◌≤◌, Bool, true, false, cond, ◌||◌, eqb, ◌⊎◌, List, [], ◌∷◌, map, length, get_or, Some, None, Ok, Err, codes, Option, Result, sym, refl, ap, ◌∙◌, subst, inl, inr, add-zero, arith}
+use Rattle.std.proofs.Common.{◌≡◌, ℕ, zero, suc, ◌+◌, ◌<◌, Bool, true, false, cond, eqb, List, [], ◌∷◌, length, get_or, Some, None, Ok, Err, codes, Option, sym, refl, ap, ◌∙◌, subst, inl, inr, add-zero, arith}
 use Rattle.std.proofs.lemmas.Bool.{and_parts, or_parts}
 use Rattle.ledger.specs.Grounds.{demand, ask}
 use Rattle.records.specs.Text.{has, before, after}
-use Rattle.records.specs.Numbers.{decimal, Short, proper, reading}
-use Rattle.records.specs.Format.{keys, letter, every_kind, kind_by, made_of}
+use Rattle.records.specs.Numbers.{proper, reading}
+use Rattle.records.specs.Format.{keys, letter, every_kind, kind_by}
 use Rattle.records.specs.Lines.{value_in, is_field}
-use Rattle.records.specs.Outcome.{bad_key, values, bad_value, amount, unless, took, taken, read_as, outcome}
-use Rattle.records.specs.Refused.{Begins, KeyedLine, from_line, FirstWrong, FirstMalformed, NumberText, Refused}
-use Rattle.records.specs.declared.body.Taken.{Taken}
+use Rattle.records.specs.Outcome.{bad_key, values, bad_value, unless, took, read_as, outcome}
+use Rattle.records.specs.Refused.{Begins, KeyedLine, from_line, FirstWrong, NumberText, Refused}
 use Rattle.records.specs.declared.fault.TextFault.{TextFault}
 use Rattle.records.specs.declared.fault.TextFault.TheVariants.{WrongKey, UnknownKind, MalformedValue}
 use Rattle.records.specs.declared.kind.Kind.{Kind}

@@ -1,16 +1,12 @@
 -- The loops over keys and over values, step by step.
-use Rattle.std.proofs.Common.{◌≡◌, ℕ, suc, ◌+◌, ◌<◌, ◌≤◌, Bool, true, false, cond, ◌&&◌, List, [], ◌∷◌, ◌++◌, map, length, get_or, take, drop, set, ℤ, Some, None, Ok, Err, Option, Result, sym, refl, ap, ◌∙◌, subst, add-zero, add_assoc, arith, Bor}
-use Rattle.std.specs.Str.{bytes_eq}
-use Rattle.std.proofs.lemmas.List.{drop_more, take_more_set, append_assoc, append-nil, map_push, drop_all, take_all, length-map}
-use Rattle.std.proofs.lemmas.Bool.{and_from, and_right, and_parts, cases_Bool}
-use Rattle.std.proofs.lemmas.Bool.Decides.{not_from_Decides}
-use Rattle.std.proofs.lemmas.Slice.Eq.{bytes_eq-Decides}
+use Rattle.std.proofs.Common.{◌≡◌, ℕ, ◌+◌, ◌<◌, ◌≤◌, Bool, true, false, cond, List, [], ◌∷◌, ◌++◌, map, length, get_or, take, drop, set, ℤ, Some, None, sym, refl, ap, ◌∙◌, subst, add-zero, add_assoc, arith, Bor}
+use Rattle.std.proofs.lemmas.List.{drop_more, take_more_set, append_assoc, append-nil, map_push, drop_all, length-map}
+use Rattle.std.proofs.lemmas.Bool.{and_from}
 use Rattle.records.specs.Text.{has, before, after}
 use Rattle.records.specs.Numbers.{reading, proper, number_of}
-use Rattle.records.specs.Lines.{splits, key_in, value_in, is_field, key_of, seen, texts, FieldAt, Sorted}
+use Rattle.records.specs.Lines.{splits, key_in, value_in, is_field, seen, texts, FieldAt}
 use Rattle.records.specs.Outcome.{bad_key, values, past, bad_value, amount, sights}
 use Rattle.records.specs.declared.field.Field.{Field}
-use Rattle.records.specs.declared.field.Field.TheVariants.{Kind, Number}
 
 -- the first line, in its parts
 module _ (t line rest found value : List ℕ) (a : (has 10 t ≡ true) × (line ≡ before 10 t) × (rest ≡ after 10 t)) (b : (has 61 line ≡ true) × (found ≡ before 61 line) × (value ≡ after 61 line)) where

@@ -1,5 +1,5 @@
 -- The format: the letter and the keys of each kind, and the text of a record.
-use Rattle.std.specs.Prelude.{ℕ, cond, List, [], ◌∷◌, ◌++◌, length, ℤ, pos, Some, None, codes, Option, slice_index_or}
+use Rattle.std.specs.Prelude.{ℕ, cond, List, [], ◌∷◌, ◌++◌, ℤ, pos, Some, None, codes, Option, slice_index_or}
 use Rattle.std.specs.List.{AllByRecursion as All}
 use Rattle.std.specs.Str.{bytes_eq}
 use Rattle.records.specs.Numbers.{decimal, Short}

@@ -1,5 +1,5 @@
 -- What the reader answers at the text that is left, whose first line has the number n.
-use Rattle.std.specs.Prelude.{◌≡◌, ℕ, ◌+◌, Bool, true, false, cond, List, [], ◌∷◌, map, length, take, ℤ, Some, None, Ok, Err, codes, Option, Result}
+use Rattle.std.specs.Prelude.{◌≡◌, ℕ, ◌+◌, true, cond, List, [], ◌∷◌, map, length, take, ℤ, Some, None, Ok, Err, codes, Option, Result}
 use Rattle.std.specs.Borrow.{Bor}
 use Rattle.ledger.specs.Grounds.{demand, ask}
 use Rattle.records.specs.Text.{after}

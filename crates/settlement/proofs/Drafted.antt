@@ -1,12 +1,12 @@
 -- The ladder of a new point, step by step.
-use Rattle.std.proofs.Common.{◌≡◌, ℕ, ◌<◌, ◌≤◌, Bool, true, false, ltb, leb, length, Ok, Err, Result, sym, ◌∙◌, arith}
+use Rattle.std.proofs.Common.{◌≡◌, ◌<◌, ◌≤◌, Bool, true, false, ltb, length, Ok, Err, Result, arith}
 use Rattle.std.proofs.lemmas.Bool.{ltb-true}
 use Rattle.ledger.specs.Grounds.{demand}
 use Rattle.ledger.specs.GroundsLemmas.{demanded}
 use Rattle.settlement.specs.Drafting.{next, point_ground, point_of}
 use Rattle.settlement.specs.Limits.{most_points}
 use Rattle.settlement.specs.Shape.{shaped}
-use Rattle.settlement.specs.State.{Lists, Sizes, State}
+use Rattle.settlement.specs.State.{Sizes, State}
 use Rattle.settlement.specs.declared.drafting.PointTerms.{PointTerms}
 use Rattle.settlement.specs.declared.fault.Fault.{Fault}
 use Rattle.settlement.specs.declared.fault.Fault.TheVariants as fault

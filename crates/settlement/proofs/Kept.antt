@@ -1,5 +1,5 @@
 -- What a register's answer and contents come to, in the ladder of the record that is put.
-use Rattle.std.proofs.Common.{◌≡◌, ℕ, ◌-◌, ◌<◌, ◌≤◌, Bool, true, false, cond, List, length, set, ℤ, pos, IfSome, Some, None, Ok, Err, Option, Result, sym, refl, ap, ◌∙◌, arith}
+use Rattle.std.proofs.Common.{◌≡◌, ℕ, ◌≤◌, Bool, true, false, cond, List, length, set, ℤ, pos, IfSome, Some, None, Ok, Option, Result, sym, refl, ap, ◌∙◌, arith}
 use Rattle.ledger.specs.Grounds.{demand, on_ok, told}
 use Rattle.ledger.specs.Slots.{put_after, put_place}
 use Rattle.settlement.specs.DayRecords.{RowsInside, has_room, put_told, with_room}

@@ -1,5 +1,5 @@
 -- What a book answers to each call, and what it holds then. The state after a list of calls is the fold of these.
-use Rattle.std.specs.Prelude.{◌≡◌, ℕ, Bool, true, false, cond, Ok, Err, Result}
+use Rattle.std.specs.Prelude.{Bool, true, false, cond, Err, Result}
 use Rattle.ledger.specs.Grounds.{on_ok, told}
 use Rattle.settlement.specs.DayRecords.{daily_after, daily_ground, entry_measurement_after, entry_measurement_ground, profile_after, profile_ground, statement_after, statement_ground, trade_after, trade_ground, weather_after, weather_ground, zone_measurement_after, zone_measurement_ground}
 use Rattle.settlement.specs.Drafting.{point_after, point_ground, start_ground}

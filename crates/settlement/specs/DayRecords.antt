@@ -1,5 +1,5 @@
 -- What an open Day takes: measurements, factors, statements, daily quantities and trades. The last accepted counts.
-use Rattle.std.specs.Prelude.{ℕ, ◌-◌, ◌*◌, ◌≤◌, Bool, true, false, cond, not, ◌&&◌, List, length, ℤ, Some, None, Ok, Err, Option, Result, ◌==◌, nat_le, nat_lt, slice_index_or, slice_set}
+use Rattle.std.specs.Prelude.{ℕ, ◌-◌, ◌≤◌, Bool, true, false, not, ◌&&◌, List, length, ℤ, Some, None, Ok, Err, Option, Result, ◌==◌, nat_le, nat_lt, slice_index_or, slice_set}
 use Rattle.ledger.specs.Ranges.{in_range, in_range_either_way}
 use Rattle.ledger.specs.Grounds.{ask, demand, on_ok}
 use Rattle.ledger.specs.Places.{at2}
@@ -14,7 +14,6 @@ use Rattle.settlement.specs.declared.day_records.Statement.{Statement}
 use Rattle.settlement.specs.declared.day_records.Trade.{Trade}
 use Rattle.settlement.specs.declared.fault.Fault.{Fault}
 use Rattle.settlement.specs.declared.fault.Fault.TheVariants as fault
-use Rattle.settlement.specs.declared.rows.Class.{Class}
 use Rattle.settlement.specs.declared.rows.Point.{Point}
 use Rattle.settlement.specs.declared.rows.Profile.{Profile}
 use Rattle.settlement.specs.declared.rows.Weather.{Weather}

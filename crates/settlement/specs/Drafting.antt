@@ -1,5 +1,5 @@
 -- A new book, and what a draft takes: points, and its start.
-use Rattle.std.specs.Prelude.{◌≡◌, ℕ, ◌+◌, length, ℤ, Some, Ok, Err, Result, nat_lt, slice_set}
+use Rattle.std.specs.Prelude.{◌≡◌, ◌+◌, Some, Ok, Err, Result, nat_lt, slice_set}
 use Rattle.ledger.specs.Calendar.{whole_months}
 use Rattle.ledger.specs.Ranges.{in_range}
 use Rattle.ledger.specs.Grounds.{ask, demand, on_ok}

@@ -1,5 +1,5 @@
 -- What a book holds: its numbers, and the tables and registers that are lent with each call.
-use Rattle.std.specs.Prelude.{◌≡◌, ℕ, List, length, replicate, ℤ, pos, Some, None, Option}
+use Rattle.std.specs.Prelude.{◌≡◌, ℕ, List, length, replicate, ℤ, pos, None, Option}
 use Rattle.settlement.specs.declared.counts.Counts.{Counts}
 use Rattle.settlement.specs.declared.day_records.DailyQuantity.{DailyQuantity}
 use Rattle.settlement.specs.declared.day_records.Statement.{Statement}

@@ -1,4 +1,4 @@
-use Rattle.std.proofs.Common.{Ok, sym, ap, ◌∙◌, w64}
+use Rattle.std.proofs.Common.{Ok, ap, ◌∙◌, w64}
 use Rattle.std.proofs.lemmas.Result.{err_from_is_err_and}
 use Rattle.std.proofs.lemmas.Int.{to_z-of_z}
 use Rattle.ledger.proofs.Lawful.{laws_of}

@@ -1,4 +1,4 @@
-use Rattle.std.proofs.Common.{◌≡◌, ◌+◌, sum, ap, ◌∙◌, arith, take_all}
+use Rattle.std.proofs.Common.{◌+◌, sum, ap, ◌∙◌, arith, take_all}
 use Rattle.ledger.specs.Largest.{floors}
 use Rattle.ledger.specs.LargestLemmas.{small_product, floors_more, floors_front}
 use Rattle.ledger.proofs.largest_remainder_rule.floors_sum.Goals as goal

@@ -1,4 +1,4 @@
-use Rattle.std.proofs.Common.{◌≡◌, ◌≤◌, take, sum}
+use Rattle.std.proofs.Common.{◌≡◌, take, sum}
 use Rattle.ledger.specs.Largest.{floors}
 use Rattle.ledger.proofs.largest_remainder_rule.floors_sum.Given as goal
 

@@ -1,8 +1,8 @@
-use Rattle.std.proofs.Common.{◌≡◌, ℕ, ◌+◌, ◌-◌, ◌*◌, ◌/◌, ◌%◌, ◌<◌, ◌≤◌, ltb, leb, length, get_or, take, drop, count_by, sym, ap, ◌∙◌, div-le_self, arith, rules}
+use Rattle.std.proofs.Common.{◌≡◌, ◌+◌, ◌*◌, ◌%◌, ltb, leb, get_or, take, drop, count_by, ap, ◌∙◌, div-le_self, arith, rules}
 use native.Mathlib.Nat.{sub-zero}
 use Rattle.std.proofs.lemmas.List.{take_rest, length-take, length-drop}
 use Rattle.std.proofs.lemmas.Bool.Decides.{nat_tests}
-use Rattle.ledger.specs.Largest.{remainders, portions}
+use Rattle.ledger.specs.Largest.{remainders}
 use Rattle.ledger.specs.LargestLemmas.{small_product, small_front, small_back, portion_is, rows_le}
 use Rattle.ledger.specs.Ranks.{one_if}
 use Rattle.ledger.proofs.largest_remainder_rule.portion.Goals as goal

@@ -1,5 +1,4 @@
-use Rattle.std.proofs.Common.{◌≡◌, ◌+◌, leb, count_by, ap, ◌∙◌, arith, take_all}
-use Rattle.std.proofs.lemmas.Bool.Decides.{nat_tests}
+use Rattle.std.proofs.Common.{◌+◌, leb, count_by, ap, ◌∙◌, arith, take_all}
 use Rattle.ledger.specs.Largest.{remainders}
 use Rattle.ledger.specs.LargestLemmas.{small_product, count_yes, count_no}
 use Rattle.ledger.proofs.largest_remainder_rule.rows_from.Goals as goal

@@ -1,5 +1,5 @@
 use Rattle.std.proofs.Common.{◌≡◌, ◌+◌, drop}
-use Rattle.ledger.specs.Slots.{first_at, filled, free}
+use Rattle.ledger.specs.Slots.{first_at, free}
 use Rattle.ledger.proofs.register.find_free.Given as goal
 
 abbrev pub invariant-loop-i : goal.invariant-loop-i

@@ -1,4 +1,4 @@
-use Rattle.std.proofs.Common.{◌≡◌, ◌+◌, ◌*◌, sym, ap, subst, arith}
+use Rattle.std.proofs.Common.{◌≡◌, ◌+◌, ◌*◌, ap, arith}
 use Rattle.ledger.specs.Places.{at3}
 use Rattle.ledger.proofs.Places.{inside3}
 use Rattle.ledger.proofs.table.place3.Goals as goal

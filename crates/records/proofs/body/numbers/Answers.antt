@@ -1,7 +1,6 @@
-use Rattle.std.proofs.Common.{◌≡◌, Some, sym, refl, ap, ◌∙◌, arith, w64, SFits, rules}
+use Rattle.std.proofs.Common.{Some, sym, refl, ap, ◌∙◌, arith, w64, SFits, rules}
 use Rattle.std.proofs.lemmas.Int.{to_z-of_z}
 use Rattle.records.specs.Numbers.{number_of}
-use Rattle.records.specs.declared.fault.TextFault.TheVariants.{MalformedValue}
 use Rattle.records.proofs.Steps.{values_more, values_bad, values_all}
 use Rattle.records.proofs.body.numbers.Goals as goal
 

@@ -1,7 +1,7 @@
-use Rattle.std.proofs.Common.{◌≡◌, ℕ, ◌<◌, List, drop, ℤ, pos, ◌-ℤ◌, neg_ℤ, Some, None, sym, subst, arith, w64, to_z, of_z, rules}
+use Rattle.std.proofs.Common.{◌≡◌, ℕ, List, drop, ℤ, pos, ◌-ℤ◌, neg_ℤ, Some, None, sym, subst, arith, w64, to_z, of_z}
 use Rattle.std.proofs.lemmas.List.{take_rest}
-use Rattle.std.proofs.lemmas.Int.{ints, to_z-of_z}
-use Rattle.records.specs.Numbers.{Exact, Natural, number_of}
+use Rattle.std.proofs.lemmas.Int.{ints}
+use Rattle.records.specs.Numbers.{Exact, Natural}
 use Rattle.records.proofs.Decimals.{plain_none, minus_none, minus_zero, minus_some, exact_answer}
 use Rattle.records.proofs.numeral.number.Goals as goal
 use Rattle.records.proofs.numeral.number.Goals.{else-value-gt0-via-then-value-gt0+else-value-eq45, else-value-gt0-via-else-value-gt0}

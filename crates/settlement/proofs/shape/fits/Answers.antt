@@ -1,4 +1,4 @@
-use Rattle.std.proofs.Common.{◌≡◌, Bool, true, false, ◌&&◌, sym, ap, ◌∙◌}
+use Rattle.std.proofs.Common.{◌≡◌, true, false, ◌&&◌, sym, ap, ◌∙◌}
 use Rattle.settlement.specs.Shape.{figures_shaped, records_shaped, shaped}
 use Rattle.settlement.specs.State.{lists, sizes}
 use Rattle.settlement.proofs.shape.fits.Goals as goal

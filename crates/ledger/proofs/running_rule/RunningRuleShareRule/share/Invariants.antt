@@ -1,4 +1,4 @@
-use Rattle.std.proofs.Common.{◌≡◌, ◌*◌, ◌/◌, ◌≤◌, ◌++◌, map, length, take, drop, nat_abs, sum}
+use Rattle.std.proofs.Common.{◌≡◌, ◌*◌, ◌/◌, ◌++◌, map, take, drop, sum}
 use Rattle.ledger.specs.Running.{growths}
 use Rattle.ledger.specs.Signs.{signed}
 use Rattle.ledger.proofs.running_rule.RunningRuleShareRule.share.Given as goal

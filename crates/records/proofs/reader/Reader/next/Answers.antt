@@ -1,12 +1,10 @@
-use Rattle.std.proofs.Common.{◌≡◌, ℕ, ◌+◌, ◌*◌, ◌<◌, ◌≤◌, List, length, drop, Some, None, Ok, Err, Option, Result, sym, refl, ap, ◌∙◌, subst, add_assoc, add_comm, arith, rules}
+use Rattle.std.proofs.Common.{◌≡◌, ℕ, ◌+◌, ◌*◌, ◌<◌, ◌≤◌, List, length, drop, Some, Ok, Option, sym, refl, ap, ◌∙◌, subst, arith, rules}
 use Rattle.std.proofs.lemmas.List.{take_rest, length-append, length-drop, drop-drop}
 use Rattle.std.proofs.lemmas.Result.{err_from_is_err_and}
 use Rattle.records.specs.Exact.{Exactly}
 use Rattle.records.specs.Format.{written}
-use Rattle.records.specs.Outcome.{next_of}
-use Rattle.records.specs.Progress.{left, line_at, Moved}
+use Rattle.records.specs.Progress.{left, line_at}
 use Rattle.records.specs.declared.body.Taken.{Taken}
-use Rattle.records.specs.declared.reader.Reader.{Reader}
 use Rattle.records.proofs.Answered.{sparse}
 use Rattle.records.proofs.reader.Reader.next.Goals as goal
 

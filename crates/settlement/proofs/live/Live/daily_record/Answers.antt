@@ -1,4 +1,4 @@
-use Rattle.std.proofs.Common.{◌≤◌, length, sym, arith}
+use Rattle.std.proofs.Common.{sym, arith}
 use Rattle.settlement.specs.State.{lists, sizes}
 use Rattle.settlement.proofs.Kept.{rows_inside}
 use Rattle.settlement.proofs.Long.{long}

@@ -1,4 +1,4 @@
-use Rattle.std.proofs.Common.{◌<◌, ◌≤◌, sym, arith, rules}
+use Rattle.std.proofs.Common.{sym, arith, rules}
 use Rattle.settlement.specs.State.{lists, sizes}
 use Rattle.settlement.proofs.Long.{long}
 use Rattle.settlement.proofs.live.Live.zone_measurement_ground.Goals as goal

@@ -1,5 +1,5 @@
 use Rattle.std.proofs.Common.{◌≡◌, suc, ◌<◌, ◌≤◌, sym, ◌∙◌, subst, arith}
-use Rattle.ledger.specs.Calendar.{first_day, whole_to, whole_months}
+use Rattle.ledger.specs.Calendar.{first_day, whole_months}
 use Rattle.ledger.proofs.Months.{whole_is, whole_few, whole_last, whole_next, whole_more, whole_stays}
 use Rattle.ledger.proofs.calendar.limits.Calendar.months.Goals as goal
 use Rattle.ledger.proofs.calendar.limits.Calendar.months.Goals.{then-end_day-self, else-end_day-self}
