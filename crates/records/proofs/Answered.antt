@@ -1,6 +1,6 @@
 -- What the reader answers, and what its parts answer, joined.
 use Rattle.std.proofs.Common.{◌≡◌, ℕ, ◌+◌, ◌*◌, ◌≤◌, Bool, true, false, List, [], ◌∷◌, ◌++◌, map, length, take, drop, ℤ, Some, None, Ok, Err, codes, Option, Result, sym, refl, ap, ◌∙◌, subst, arith, Bor}
-use Rattle.std.specs.List.{AllByRecursion as All}
+use Rattle.std.specs.List.{AllByRecursion}
 use Rattle.std.proofs.lemmas.List.{append-nil, append_cancel_left, length-map, length-append, length-take-le, drop_at}
 use Rattle.ledger.specs.Grounds.{demand, ask}
 use Rattle.records.specs.Text.{after}
@@ -40,7 +40,7 @@ read_whole k t n r h =
     let w = body_whole (keys k) t n a.0 b.0 in
     let i : kind_of r ≡ k = ap kind_of (sym e) ∙ made_kind k zs in
     let m : numbers_in r ≡ zs = ap numbers_in (sym e) ∙ (made_firsts k zs ∙ firsts_all 0 (keys k) zs (omega (arith, w.2))) in
-    (i, w.0 ∙ (ap (λ x. body x zs ++ past (keys k) t) (ap keys (sym i)) ∙ ap (λ x. body (keys (kind_of r)) x ++ past (keys k) t) (sym m)), subst (All Short) (sym m) w.1)
+    (i, w.0 ∙ (ap (λ x. body x zs ++ past (keys k) t) (ap keys (sym i)) ∙ ap (λ x. body (keys (kind_of r)) x ++ past (keys k) t) (sym m)), subst (AllByRecursion Short) (sym m) w.1)
 
 pub next_whole : (t : List ℕ) (n : ℕ) (k : Kind) (r : Record) → is_field (codes "kind") t ≡ true → kind_by (value_in t) ≡ Some k → read_as k (after 10 t) (n + 1) ≡ Ok r → (t ≡ written r ++ past (keys k) (after 10 t)) × (kind_of r ≡ k) × Writable r
 next_whole t n k r f g h =

@@ -2,7 +2,7 @@
 use Rattle.std.proofs.Common.{◌≡◌, ℕ, suc, ◌+◌, ◌*◌, ◌≤◌, Bool, true, false, cond, not, ◌&&◌, ◌||◌, eqb, List, [], ◌∷◌, ◌++◌, map, length, get_or, drop, ℤ, pos, negsuc, Some, None, Option, sym, refl, ap, ◌∙◌, add-one, arith}
 use Rattle.std.specs.Str.Parse.{AllDigits}
 use Rattle.std.specs.Fmt as std_written
-use Rattle.std.specs.List.{AllByRecursion as All}
+use Rattle.std.specs.List.{AllByRecursion}
 use Rattle.std.specs.Str.{bytes_eq}
 use Rattle.std.proofs.lemmas.List.{length-append, append_assoc, drop_more, drop_all}
 use Rattle.std.proofs.lemmas.Bool.{eqb-true, eq-eqb, ne_eqb, and_parts, and_from, or_parts}
@@ -86,7 +86,7 @@ none_parts : (x : Bool) (o : Option ℕ) (n : ℕ) → cond x o (Some n) ≡ Non
 none_parts true o n h = (refl, h)
 none_parts false o n h = let z : ◌≡◌ {A = ℕ} 0 1 = cc in absurd (omega arith)
 
-pub body_whole : (ks : List (List ℕ)) (t : List ℕ) (n : ℕ) → bad_key ks t n ≡ None → bad_value (values ks t n) ≡ None → (t ≡ body ks (map amount (values ks t n)) ++ past ks t) × All Short (map amount (values ks t n)) × (length (map amount (values ks t n)) ≡ length ks)
+pub body_whole : (ks : List (List ℕ)) (t : List ℕ) (n : ℕ) → bad_key ks t n ≡ None → bad_value (values ks t n) ≡ None → (t ≡ body ks (map amount (values ks t n)) ++ past ks t) × AllByRecursion Short (map amount (values ks t n)) × (length (map amount (values ks t n)) ≡ length ks)
 body_whole [] t n a b = (refl, tt, refl)
 body_whole (k ∷ ks) t n a b =
     let p = none_parts (is_field k t) (bad_key ks (after 10 t) (n + 1)) n a in
@@ -102,7 +102,7 @@ pub record Readable (ks : List (List ℕ)) (zs : List ℤ) (t : List ℕ) (n : �
   pub valued : bad_value (values ks t n) ≡ None
   pub numbered : map amount (values ks t n) ≡ zs
 
-pub body_parts : (ks : List (List ℕ)) (zs : List ℤ) (t rest : List ℕ) (n : ℕ) → all_bare ks ≡ true → length zs ≡ length ks → All Short zs → t ≡ body ks zs ++ rest → Readable ks zs t n
+pub body_parts : (ks : List (List ℕ)) (zs : List ℤ) (t rest : List ℕ) (n : ℕ) → all_bare ks ≡ true → length zs ≡ length ks → AllByRecursion Short zs → t ≡ body ks zs ++ rest → Readable ks zs t n
 body_parts [] [] t rest n a l s e = record { keyed = refl; valued = refl; numbered = refl }
 body_parts [] (z ∷ zs) t rest n a l s e = absurd (omega arith)
 body_parts (k ∷ ks) [] t rest n a l s e = absurd (omega arith)

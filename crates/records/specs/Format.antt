@@ -1,6 +1,6 @@
 -- The format: the letter and the keys of each kind, and the text of a record.
 use Rattle.std.specs.Prelude.{ℕ, cond, List, [], ◌∷◌, ◌++◌, ℤ, pos, Some, None, codes, Option, slice_index_or}
-use Rattle.std.specs.List.{AllByRecursion as All}
+use Rattle.std.specs.List.{AllByRecursion}
 use Rattle.std.specs.Str.{bytes_eq}
 use Rattle.records.specs.Numbers.{decimal, Short}
 use Rattle.records.specs.declared.kind.Kind.{Kind}
@@ -114,4 +114,4 @@ written r = line (codes "kind") (letter (kind_of r)) (body (keys (kind_of r)) (n
 
 -- that each number has at most eleven digits, so that the record has a text
 abbrev pub Writable : Record → Type 0
-Writable r = All Short (numbers_in r)
+Writable r = AllByRecursion Short (numbers_in r)
