@@ -209,8 +209,7 @@ fn forty_eight_points(rt: HostRuntime) -> Result<(), Fail> {
         )?;
     }
     let Ok(live) = draft.start(&t) else {
-        assert!(rt; false);
-        return Ok(());
+        return Err(Fail::new("not started"));
     };
     assert_eq!(rt; number(live.measure_entry(&mut t, 2, 3, 1)), 0);
     Ok(())
