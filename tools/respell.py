@@ -1,7 +1,7 @@
 #!/usr/bin/env python3
 """Brings the repository's own definitions and lemmas to today's spelling: words in snake case, types and facts in
-camel case. Run once, at the top of the repository, right after the kit's port.py. Functions of src/, text in quotes,
-inputs, outputs and must-fail edits are left alone."""
+camel case. Run once, at the top of the repository, right after the kit's port.py. Functions and
+strings of src/, inputs, outputs and must-fail edits are left alone."""
 
 import glob
 import re

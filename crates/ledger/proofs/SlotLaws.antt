@@ -149,14 +149,14 @@ module _ {R : Type 0} (p : R → Bool) (xs : Slots R) where
       full : length xs ≤ put_place p xs → ⊥
       full o = ⊎_elim (both_ways _ (none_passes free xs None (outside_full o) i l)) (both_ways _ (none_passes (filled p) xs None (outside_new o) i l)) h
 
-module _ {R K G : Type 0} (key_of : R → K) (group_of : K → G) (keyed : K → R → Bool) (among : G → R → Bool) (tells-key : (k : K) (r : R) → Decides (keyed k r) (key_of r ≡ k)) (tells-group : (g : G) (r : R) → Decides (among g r) (group_of (key_of r) ≡ g)) where
+module _ {R K G : Type 0} (key_of : R → K) (group_of : K → G) (keyed : K → R → Bool) (among : G → R → Bool) (tells_key : (k : K) (r : R) → Decides (keyed k r) (key_of r ≡ k)) (tells_group : (g : G) (r : R) → Decides (among g r) (group_of (key_of r) ≡ g)) where
   other_key : (k : K) (r : R) → (key_of r ≡ k → ⊥) → keyed k r ≡ false
-  other_key k r ne = ⊎_elim (λ y. absurd (ne ((tells-key k r).0 y))) (λ n. n) (cases_Bool (keyed k r))
+  other_key k r ne = ⊎_elim (λ y. absurd (ne ((tells_key k r).0 y))) (λ n. n) (cases_Bool (keyed k r))
 
   -- a slot that a record goes to holds no other key
   not_there : (r : R) (k : K) (x : Option R) → (key_of r ≡ k → ⊥) → (free x ≡ true) ⊎ (filled (own key_of keyed r) x ≡ true) → filled (keyed k) x ≡ false
   not_there r k None ne h = refl
-  not_there r k (Some s) ne h = ⊎_elim (λ f. absurd (both_ways false refl f)) (λ y. other_key k s (λ e. ne (sym ((tells-key (key_of r) s).0 y) ∙ e))) h
+  not_there r k (Some s) ne h = ⊎_elim (λ f. absurd (both_ways false refl f)) (λ y. other_key k s (λ e. ne (sym ((tells_key (key_of r) s).0 y) ∙ e))) h
 
   keeps_others : (r : R) (xs : Slots R) (k : K) → (key_of r ≡ k → ⊥) → found (keyed k) (put_after (own key_of keyed r) r xs) ≡ found (keyed k) xs
   keeps_others r xs k ne = ⊎_elim inside outside (cases_lt (put_place (own key_of keyed r) xs) (length xs))
@@ -185,7 +185,7 @@ module _ {R K G : Type 0} (key_of : R → K) (group_of : K → G) (keyed : K →
   is_found r xs h =
       let l = accepted_inside (own key_of keyed r) xs h in
       ap (found (own key_of keyed r)) (put_inside (own key_of keyed r) xs r l)
-      ∙ found_set (own key_of keyed r) xs (put_place (own key_of keyed r) xs) r ((tells-key (key_of r) r).1 refl) (place_early (own key_of keyed r) xs l) l
+      ∙ found_set (own key_of keyed r) xs (put_place (own key_of keyed r) xs) r ((tells_key (key_of r) r).1 refl) (place_early (own key_of keyed r) xs l) l
 
   is_full : (r : R) (xs : Slots R) → put_answer (own key_of keyed r) xs ≡ Err (record {}) → (found (own key_of keyed r) xs ≡ None) × ((i : ℕ) → i < length xs → free (get_or xs i None) ≡ false)
   is_full r xs h =
@@ -195,7 +195,7 @@ module _ {R K G : Type 0} (key_of : R → K) (group_of : K → G) (keyed : K →
   pub register_laws : RegisterLaws key_of group_of keyed among
   register_laws =
       record {
-        found_has_key = λ k xs r h. (tells-key k r).0 (found_passes (keyed k) xs r h);
+        found_has_key = λ k xs r h. (tells_key k r).0 (found_passes (keyed k) xs r h);
         put_is_found = is_found;
         put_keeps_others = keeps_others;
         put_elsewhere = elsewhere;
@@ -203,8 +203,8 @@ module _ {R K G : Type 0} (key_of : R → K) (group_of : K → G) (keyed : K →
         refused_is_same = λ r xs h. put_outside (own key_of keyed r) xs r (refused_outside (own key_of keyed r) xs h);
         refused_is_full = is_full;
         room_is_accepted = λ r xs i l h. room (own key_of keyed r) xs i l h;
-        taken_is_gone = λ k xs. taken_none (keyed k) (among (group_of k)) (λ r e. (tells-group (group_of k) r).1 (ap group_of ((tells-key k r).0 e))) xs;
-        taken_keeps_others = λ k g xs ne. taken_same (keyed k) (among g) (λ r e. ⊎_elim (λ y. absurd (ne (ap group_of (sym ((tells-key k r).0 e)) ∙ (tells-group g r).0 y))) (λ n. n) (cases_Bool (among g r))) xs;
+        taken_is_gone = λ k xs. taken_none (keyed k) (among (group_of k)) (λ r e. (tells_group (group_of k) r).1 (ap group_of ((tells_key k r).0 e))) xs;
+        taken_keeps_others = λ k g xs ne. taken_same (keyed k) (among g) (λ r e. ⊎_elim (λ y. absurd (ne (ap group_of (sym ((tells_key k r).0 e)) ∙ (tells_group g r).0 y))) (λ n. n) (cases_Bool (among g r))) xs;
         taken_is_free = λ g xs i h. ap free (get_or_taken (among g) xs i) ∙ freed_free (among g) (get_or xs i None) h;
         taken_elsewhere = λ g xs i h. get_or_taken (among g) xs i ∙ freed_same (among g) (get_or xs i None) h;
         taken_keeps_length = λ g xs. length-map xs (freed (among g));

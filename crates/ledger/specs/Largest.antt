@@ -1,5 +1,5 @@
 -- The largest-remainder rule: each row gets its part rounded down, and what is left goes, one unit each, to the rows of largest remainder.
-use Rattle.std.specs.Prelude.{ℕ, ◌+◌, ◌-◌, ◌*◌, ◌/◌, ◌%◌, ◌<◌, ◌≤◌, cond, ltb, List, [], ◌∷◌, map, length, sum, count_by, nat_le, nat_lt, unsigned_abs}
+use Rattle.std.specs.Prelude.{ℕ, ◌+◌, ◌-◌, ◌*◌, ◌/◌, ◌%◌, ◌<◌, ◌≤◌, cond, List, [], ◌∷◌, map, length, sum, count_by, nat_le, nat_lt, unsigned_abs}
 use Rattle.ledger.specs.Laws.{Shares, most_total, most_weights, most_weight_sum}
 use Rattle.ledger.specs.Signs.{signed}
 
@@ -13,7 +13,7 @@ remainders size w ws = map (λ x. size * x % w) ws
 
 -- how many rows come before a row with the remainder r: of the earlier rows those whose remainder is no smaller, of the later ones those whose remainder is larger
 abbrev pub ahead : (earlier : List ℕ) (r : ℕ) (later : List ℕ) → ℕ
-ahead earlier r later = count_by (λ s. nat_le r s) earlier + count_by (λ s. ltb r s) later
+ahead earlier r later = count_by (λ s. nat_le r s) earlier + count_by (λ s. nat_lt r s) later
 
 -- one unit to each of the rows of remainders `rs` that have fewer than `left` rows ahead of them; `earlier` holds the rows before
 abbrev pub extras : (left : ℕ) (earlier rs : List ℕ) → List ℕ

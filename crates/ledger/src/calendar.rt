@@ -1,5 +1,5 @@
 //! The months of a span of days that begins on the first day of a month.
-ghost use Rattle.std.specs.Prelude.{◌≡◌, suc, ◌*◌, ◌<◌, ◌≤◌, pos, MatchOption};
+ghost use Rattle.std.specs.Prelude.{◌≡◌, suc, ◌*◌, ◌<◌, ◌≤◌, MatchOption};
 ghost use Rattle.ledger.specs.Calendar.{is_leap, month_days, days_in_month, length_of, first_day, whole_months, window_first, window_end, Spans, NoSpan};
 
 use crate::range::number_in;

@@ -1,5 +1,5 @@
 //! Records with a key, in slots that a caller lends.
-ghost use Rattle.std.specs.Prelude.{◌≡◌, Bool, true, Decides};
+ghost use Rattle.std.specs.Prelude.{◌≡◌, Bool, Decides};
 ghost use Rattle.ledger.specs.SlotLaws.{RegisterLaws};
 ghost use Rattle.ledger.specs.Slots.{full_layer, full_number, first_at, filled, free, put_place, put_answer, put_after, found, freed, taken_out};
 

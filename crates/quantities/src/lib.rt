@@ -1,7 +1,7 @@
 //! Quantities of gas: what a user's share of a measured quantity is, by any share rule.
 #![tactic(auto)]
 
-ghost use Rattle.std.specs.Prelude.{◌≡◌, ℕ, ◌≤◌, length, take, ℤ, unsigned_abs};
+ghost use Rattle.std.specs.Prelude.{◌≡◌, ℕ, ◌≤◌, length, take, unsigned_abs};
 ghost use Rattle.ledger.specs.Grounds.{on_ok};
 ghost use Rattle.ledger.specs.Laws.{most_total, nothing_to_share_by, sumℤ};
 ghost use Rattle.ledger.specs.Sharing.{outcome, unless_refused};

@@ -1,5 +1,5 @@
 //! New books, and what a draft takes: points, and its start.
-ghost use Rattle.std.specs.Prelude.{◌≡◌, ◌≤◌, length, replicate, IfOk};
+ghost use Rattle.std.specs.Prelude.{◌≡◌, length, replicate, IfOk};
 ghost use Rattle.ledger.specs.Grounds.{told};
 ghost use Rattle.settlement.specs.Drafting.{Started, counted, counts_ground, drafted_sizes, new_after, new_ground, point_after, point_ground, point_of, start_ground};
 ghost use Rattle.settlement.specs.State.{Lent, drafted, emptied, lists, sizes};

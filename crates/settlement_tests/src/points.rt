@@ -2,7 +2,7 @@
 use crate::owner::{Lengths, Owner, number, terms};
 use crate::prints::{at, class_number, print, write};
 use crate::small_book::{SMALL, point, row_after};
-use ledger::{RunningRule, ShareRule};
+use ledger::RunningRule;
 use settlement::{Draft, Live, Point, PointTerms, Tables};
 use std::process::Abort;
 use std::test::Fail;
