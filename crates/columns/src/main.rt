@@ -8,11 +8,12 @@ use std::io;
 
 /// Prints the shares, with commas between them.
 fn print_column(rt: &HostRuntime, column: &[i64]) -> io::Result<()> {
-    for (i, share) in column.iter().enumerate() {
-        if i > 0 {
-            print!(rt; ",")?;
-        }
-        print!(rt; "{share}")?;
+    let Some((first, rest)) = column.split_first() else {
+        return Ok(());
+    };
+    print!(rt; "{first}")?;
+    for share in rest {
+        print!(rt; ",{share}")?;
     }
     Ok(())
 }

@@ -9,7 +9,7 @@ use Rattle.settlement.specs.State.{Lists, Sizes, new_state}
 use Rattle.settlement.specs.declared.book.Book.{Book}
 use Rattle.settlement.specs.declared.book.Call.{Call}
 use Rattle.settlement.specs.declared.book.Call.TheVariants as call
-use Rattle.settlement.specs.declared.drafting.BookTerms.{BookTerms}
+use Rattle.settlement.specs.declared.terms.BookTerms.{BookTerms}
 use Rattle.settlement.specs.declared.fault.Fault.{Fault}
 use Rattle.settlement.specs.declared.fault.Fault.TheVariants as fault
 use Rattle.settlement.specs.declared.tables.Tables.{Tables}
@@ -19,13 +19,13 @@ abbrev pub call_of : Record → Option Call
 call_of (rec.Book year month days users entries zones) = None
 call_of (rec.Point zone user class read band aq index) = Some (call.Point (record { zone = zone; user = user; class = class; least_days = read; band = band; aq = aq; index = index }))
 call_of rec.Start = Some call.Start
-call_of (rec.EntryMeasurement day entry quantity) = Some (call.MeasureEntry day entry quantity)
-call_of (rec.ZoneMeasurement day zone quantity) = Some (call.MeasureZone day zone quantity)
-call_of (rec.Weather day zone cv wcf) = Some (call.Weather day zone cv wcf)
-call_of (rec.Profile day band alp daf) = Some (call.Profile day band alp daf)
-call_of (rec.Statement day entry user quantity) = Some (call.Statement day entry user quantity)
-call_of (rec.DailyQuantity day point quantity) = Some (call.DailyQuantity day point quantity)
-call_of (rec.Trade day seller buyer quantity) = Some (call.Trade day seller buyer quantity)
+call_of (rec.EntryMeasurement day entry quantity) = Some (call.MeasureEntry (record { day = day; entry = entry; quantity = quantity }))
+call_of (rec.ZoneMeasurement day zone quantity) = Some (call.MeasureZone (record { day = day; zone = zone; quantity = quantity }))
+call_of (rec.Weather day zone cv wcf) = Some (call.Weather (record { day = day; zone = zone; cv = cv; wcf = wcf }))
+call_of (rec.Profile day band alp daf) = Some (call.Profile (record { day = day; band = band; alp = alp; daf = daf }))
+call_of (rec.Statement day entry user quantity) = Some (call.Statement (record { day = day; entry = entry; user = user; quantity = quantity }))
+call_of (rec.DailyQuantity day point quantity) = Some (call.DailyQuantity (record { day = day; point = point; quantity = quantity }))
+call_of (rec.Trade day seller buyer quantity) = Some (call.Trade (record { day = day; seller = seller; buyer = buyer; quantity = quantity }))
 call_of rec.CloseDay = None
 call_of (rec.Reading point day index) = None
 call_of rec.CloseMonth = None

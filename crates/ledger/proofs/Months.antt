@@ -1,10 +1,12 @@
 -- How long months are, and how many lie wholly inside a span.
-use Rattle.std.proofs.Common.{◌≡◌, ℕ, zero, suc, ◌+◌, ◌-◌, ◌<◌, ◌≤◌, Bool, true, false, cond, ◌||◌, eqb, leb, sym, refl, ap, ◌∙◌, subst, ⊎_elim, le_trans, arith}
+use Rattle.std.proofs.Common.{◌≡◌, ℕ, zero, suc, ◌+◌, ◌-◌, ◌*◌, ◌<◌, ◌≤◌, Bool, true, false, cond, ◌||◌, eqb, leb, length, sym, refl, ap, ◌∙◌, subst, ⊎_elim, le_trans, tests, arith}
+use Rattle.std.specs.List.{filter, range_with_len}
+use Rattle.std.proofs.lemmas.List.Sums.{length-filter, sum-map}
 use Rattle.std.proofs.lemmas.Bool.{cases_lt, cond_both, cond-true, cond-false, le-leb, lt-leb, leb-true}
 use Rattle.ledger.specs.Calendar.{is_leap, month_days, length_of, year_of, month_of, first_day, whole_to, whole_months}
 use Rattle.ledger.specs.Sums.{sum_to}
 use Rattle.ledger.specs.GroundsLemmas.{all_at}
-use Rattle.ledger.proofs.Sums.{sum_more, sum_at_most}
+use Rattle.ledger.proofs.Sums.{sum_of_range, sum_at_most}
 
 -- a month has at least 30 days, and February 28
 least : ℕ → ℕ
@@ -17,6 +19,17 @@ month_least year month = go (eqb month 2)
     go : (t : Bool) → cond t 28 30 ≤ cond t (cond (is_leap year) 29 28) (cond (eqb month 4 || (eqb month 6 || (eqb month 9 || eqb month 11))) 30 31)
     go true = cond_both (is_leap year) 29 28 (λ n. 28 ≤ n) (λ y. omega arith) (λ n. omega arith)
     go false = cond_both (eqb month 4 || (eqb month 6 || (eqb month 9 || eqb month 11))) 30 31 (λ n. 30 ≤ n) (λ y. omega arith) (λ n. omega arith)
+
+month_within : (year month : ℕ) → (28 ≤ month_days year month) × (month_days year month ≤ 31)
+month_within year month = grind (arith, tests)
+
+-- so m months have 28 to 31 days each
+pub first_within : (year month m : ℕ) → (28 * m ≤ first_day year month m) × (first_day year month m ≤ 31 * m)
+first_within year month zero = (omega arith, omega arith)
+first_within year month (suc m) =
+    let (a, b) = first_within year month m in
+    let (l, u) = month_within (year_of year month m) (month_of month m) in
+    (omega arith, omega arith)
 
 -- so fourteen months have more than 400 days, whichever is the first
 enough : ℕ → Bool
@@ -71,15 +84,18 @@ module _ (year month days : ℕ) where
   counted zero = record { few = omega arith; last = omega arith; next = λ b. absurd (omega arith) }
   counted (suc n) = counted_more n (whole_to n year month days) (counted n)
 
--- at most 400 days have fewer than fourteen months
-pub whole_is : (year month days n : ℕ) → n ≡ 14 → whole_to n year month days ≡ whole_months year month days
+-- the count of those of the first fourteen months that end within the days
+pub whole_is : (year month days : ℕ) → length (filter (λ m. leb (first_day year month (suc m)) days) (range_with_len 0 14)) ≡ whole_months year month days
 unfolding whole_months
-whole_is year month days n e = ap (λ k. whole_to k year month days) e
+whole_is year month days =
+    let ends : ℕ → Bool = λ m. leb (first_day year month (suc m)) days in
+    length-filter ends (range_with_len 0 14) ∙ sym (sum-map (λ m. cond (ends m) 1 0) (range_with_len 0 14)) ∙ sum_of_range 14 (λ m. cond (ends m) 1 0)
 
 pub whole_last : (year month days : ℕ) → first_day year month (whole_months year month days) ≤ days
 unfolding whole_months
 whole_last year month days = (counted year month days 14).last
 
+-- at most 400 days have fewer than fourteen months
 pub whole_few : (year month days : ℕ) → month ≤ 12 → days ≤ 400 → whole_months year month days ≤ 13
 unfolding whole_months
 whole_few year month days m h = ⊎_elim (λ l. omega arith) (λ o. absurd (past o)) (cases_lt (whole_to 14 year month days) 14)
@@ -93,10 +109,3 @@ whole_few year month days m h = ⊎_elim (λ l. omega arith) (λ o. absurd (past
 pub whole_next : (year month days : ℕ) → month ≤ 12 → days ≤ 400 → days < first_day year month (suc (whole_months year month days))
 unfolding whole_months
 whole_next year month days m h = let l = whole_few year month days m h in (counted year month days 14).next (omega (arith, l))
-
--- a loop's step
-pub whole_more : (year month days n : ℕ) → first_day year month (suc n) ≤ days → whole_to (n + 1) year month days ≡ whole_to n year month days + 1
-whole_more year month days n h = omega (arith, sum_more n (λ m. cond (leb (first_day year month (suc m)) days) 1 0), cond-true {A = ℕ} (leb (first_day year month (suc n)) days) 1 0 (le-leb _ _ h))
-
-pub whole_stays : (year month days n : ℕ) → days < first_day year month (suc n) → whole_to (n + 1) year month days ≡ whole_to n year month days
-whole_stays year month days n h = omega (arith, sum_more n (λ m. cond (leb (first_day year month (suc m)) days) 1 0), cond-false {A = ℕ} (leb (first_day year month (suc n)) days) 1 0 (lt-leb _ _ h))

@@ -1,7 +1,9 @@
 -- The laws of sums over the numbers below n.
-use Rattle.std.proofs.Common.{◌≡◌, ℕ, zero, suc, ◌+◌, ◌-◌, ◌<◌, ◌≤◌, ℤ, pos, ◌+ℤ◌, ◌-ℤ◌, sym, refl, ap, ⊎_elim, add-one, arith}
+use Rattle.std.proofs.Common.{◌≡◌, ℕ, zero, suc, ◌+◌, ◌-◌, ◌<◌, ◌≤◌, ℤ, pos, ◌+ℤ◌, ◌-ℤ◌, map, sum, sym, refl, ap, ⊎_elim, add-one, arith}
 use Rattle.std.proofs.lemmas.Int.{ints}
 use Rattle.std.proofs.lemmas.Bool.{cases_eq}
+use Rattle.std.proofs.lemmas.List.FromFn.{sum_by-map-range_with_len_more}
+use Rattle.std.specs.List.{range_with_len}
 use Rattle.ledger.specs.Sums.{sum_to, sumℤ_to}
 use Rattle.ledger.specs.SumLaws.{Agree, AgreeBut, SumLaws}
 
@@ -43,9 +45,12 @@ pub sum_at_most : (n : ℕ) (f g : ℕ → ℕ) → ((k : ℕ) → k < n → f k
 sum_at_most zero f g h = omega arith
 sum_at_most (suc n) f g h = omega (arith, sum_at_most n f g (λ k l. h k (omega arith)), h n (omega arith))
 
--- a loop's step
-pub sum_more : (n : ℕ) (f : ℕ → ℕ) → sum_to (n + 1) f ≡ sum_to n f + f n
-sum_more n f = rw add-one
+-- the sum of the list that a chain over the numbers below n gives
+pub sum_of_range : (n : ℕ) (f : ℕ → ℕ) → sum (map f (range_with_len 0 n)) ≡ sum_to n f
+sum_of_range zero f = refl
+sum_of_range (suc n) f =
+    let e : suc n ≡ n + 1 = omega arith in
+    omega (arith, ap (λ k. sum (map f (range_with_len 0 k))) e, sum_by-map-range_with_len_more (λ x. x) f 0 n n (omega arith), sum_of_range n f)
 
 -- integers
 pub sumℤ_same : (n : ℕ) (f g : ℕ → ℤ) → Agree n f g → sumℤ_to n f ≡ sumℤ_to n g

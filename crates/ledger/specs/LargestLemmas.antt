@@ -145,6 +145,9 @@ floors_more s d ws i l = ap sum (map_more (λ x. s * x / d) ws i 0 l) ∙ sum_by
 pub floors_front : (s d : ℕ) (ws : List ℕ) (i : ℕ) → sum (floors s d (take i ws)) ≤ sum (floors s d ws)
 floors_front s d ws i = omega (arith, ap sum (take-map (λ x. s * x / d) i ws), sum_by-take-le (λ x. x) (floors s d ws) i)
 
+pub floors_back : (s d : ℕ) (ws : List ℕ) (i : ℕ) → sum (floors s d (drop i ws)) ≤ sum (floors s d ws)
+floors_back s d ws i = omega (arith, ap sum (drop-map (λ x. s * x / d) i ws), sum_by-take-drop (λ x. x) (floors s d ws) i)
+
 -- a product stays small
 pub small_product : {s d : ℕ} {ws : List ℕ} → Small s d ws → (i : ℕ) → i < length ws → s * slice_index ws i ≤ 4392000000000000000
 small_product {s} {d} {ws} h i l =

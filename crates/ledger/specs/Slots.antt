@@ -17,6 +17,10 @@ abbrev pub first_at : {X : Type 0} → (X → Bool) → List X → ℕ
 first_at p [] = 0
 first_at p (x ∷ xs) = cond (p x) 0 (suc (first_at p xs))
 
+-- a place that lies inside the list
+abbrev pub place_in : {X : Type 0} → List X → ℕ → Option ℕ
+place_in xs i = cond (nat_lt i (length xs)) (Some i) None
+
 -- whether a slot holds a record that passes the test
 abbrev pub filled : {R : Type 0} → (R → Bool) → Option R → Bool
 filled p (Some r) = p r

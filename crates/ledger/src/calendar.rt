@@ -9,7 +9,7 @@ mod limits;
 pub use limits::Calendar;
 
 /// Days of a span: `first` and those after it, up to `end`, which is left out.
-#[derive(Clone, Copy)]
+#[derive(Clone, Copy, Debug, PartialEq, Eq)]
 pub struct Span {
     pub first: u32,
     pub end: u32,
@@ -81,11 +81,7 @@ impl Calendar {
         ensures value { result ≡ first_day self.year self.month month }
         ensures limits { (28 * month ≤ result) × (result ≤ 31 * month) }
     {
-        let mut first = 0;
-        for m in 0..month {
-            first += self.length(m) as u32;
-        }
-        first
+        (0..month).map(|m| u32::from(self.length(m))).sum()
     }
 
     /// The day after the month's last.
@@ -102,13 +98,9 @@ impl Calendar {
         ensures last { first_day self.year self.month result ≤ self.days }
         ensures next { self.days < first_day self.year self.month (suc result) }
     {
-        let mut whole = 0;
-        for m in 0..14 {
-            if self.end_day(m) <= self.days as u32 {
-                whole += 1;
-            }
-        }
-        whole
+        (0..14)
+            .filter(|m| self.end_day(*m) <= u32::from(self.days))
+            .count() as u16
     }
 
     /// The days of the twelve months that end with the month, or of as many as there are.

@@ -1,7 +1,7 @@
 //! Records with a key, in slots that a caller lends.
-ghost use Rattle.std.specs.Prelude.{◌≡◌, Bool, Decides};
+ghost use Rattle.std.specs.Prelude.{◌≡◌, Bool, Decides, find, position};
 ghost use Rattle.ledger.specs.SlotLaws.{RegisterLaws};
-ghost use Rattle.ledger.specs.Slots.{full_layer, full_number, first_at, filled, free, put_place, put_answer, put_after, found, freed, taken_out};
+ghost use Rattle.ledger.specs.Slots.{full_layer, full_number, filled, free, place_in, put_place, put_answer, put_after, found, freed, taken_out};
 
 use crate::layer::Layer;
 
@@ -22,6 +22,7 @@ pub trait Keyed: Copy {
     fn key(&self) -> Self::Key
         ensures { result ≡ key_of self.now };
 
+    // The two tests have no body of their own here: it would ask the keys and groups of every record for `==`.
     fn has_key(&self, key: Self::Key) -> bool
         ensures { result ≡ keyed key self.now };
 
@@ -34,7 +35,7 @@ pub trait Keyed: Copy {
 }
 
 /// The refusal of a new key where no slot is free.
-#[derive(Clone, Copy)]
+#[derive(Clone, Copy, Debug, PartialEq, Eq)]
 pub struct Full;
 
 impl Full {
@@ -58,80 +59,71 @@ pub struct Register<'a, R> {
     pub slots: &'a mut [Option<R>],
 }
 
-/// The first slot that holds a record with the key, or the number of slots.
-fn find_key<R: Keyed>(slots: &[Option<R>], key: R::Key) -> usize
-    ensures { result ≡ first_at (filled (R.Keyed.keyed key)) slots.now }
+/// The first slot that holds a record with the key.
+fn find_key<R: Keyed>(slots: &[Option<R>], key: R::Key) -> Option<usize>
+    ensures { result ≡ position (filled (R.Keyed.keyed key)) slots.now }
 {
-    for (i, slot) in slots.iter().enumerate() {
-        if let Some(x) = slot {
-            if x.has_key(key) {
-                return i;
-            }
-        }
-    }
-    slots.len()
+    slots.iter().position(|slot| has_record(slot, key))
+}
+
+/// Whether a slot holds a record with the key.
+fn has_record<R: Keyed>(slot: &Option<R>, key: R::Key) -> bool
+    ensures { result ≡ filled (R.Keyed.keyed key) slot.now }
+{
+    slot.is_some_and(|x| x.has_key(key))
+}
+
+/// The first slot that holds a record with the key, as it stands.
+fn first_with<R: Keyed>(slots: &[Option<R>], key: R::Key) -> Option<Option<R>>
+    ensures { result ≡ find (filled (R.Keyed.keyed key)) slots.now }
+{
+    slots.iter().copied().find(|slot| has_record(slot, key))
 }
 
 /// The first record with the key.
+#[tactic(auto, using(crate::proofs::SlotPlaces::found_is))]
 fn find<R: Keyed>(slots: &[Option<R>], key: R::Key) -> Option<R>
     ensures { result ≡ found (R.Keyed.keyed key) slots.now }
 {
-    for slot in slots {
-        if let Some(x) = slot {
-            if x.has_key(key) {
-                return Some(*x);
-            }
-        }
-    }
-    None
+    first_with(slots, key).flatten()
 }
 
-/// The first free slot, or the number of slots.
-fn find_free<R: Keyed>(slots: &[Option<R>]) -> usize
-    ensures { result ≡ first_at free slots.now }
+/// The first free slot.
+fn find_free<R: Keyed>(slots: &[Option<R>]) -> Option<usize>
+    ensures { result ≡ position free slots.now }
 {
-    for (i, slot) in slots.iter().enumerate() {
-        if slot.is_none() {
-            return i;
-        }
-    }
-    slots.len()
+    slots.iter().position(|slot| slot.is_none())
 }
 
-/// Where a record with the key goes: the number of slots where there is no place.
-fn place_for<R: Keyed>(slots: &[Option<R>], key: R::Key) -> usize
-    ensures { result ≡ put_place (R.Keyed.keyed key) slots.now }
+/// Where a record with the key goes.
+fn place_for<R: Keyed>(slots: &[Option<R>], key: R::Key) -> Option<usize>
+    ensures { result ≡ place_in slots.now (put_place (R.Keyed.keyed key) slots.now) }
 {
-    let at = find_key(slots, key);
-    if at < slots.len() {
-        at
-    } else {
-        find_free(slots)
+    if let Some(at) = find_key(slots, key) {
+        return Some(at);
     }
+    find_free(slots)
 }
 
 /// What is left of a slot when a group is taken out.
 fn without<R: Keyed>(slot: Option<R>, group: R::Group) -> Option<R>
     ensures { result ≡ freed (R.Keyed.among group) slot }
 {
-    match slot {
-        Some(x) => { if x.belongs(group) { None } else { Some(x) } }
-        None => None,
-    }
+    slot.filter(|x| !x.belongs(group))
 }
 
 /// Frees the slot of each record of the group.
 fn free_group<R: Keyed>(slots: &mut [Option<R>], group: R::Group)
     ensures { slots.new ≡ taken_out (R.Keyed.among group) slots.old }
 {
-    for i in 0..slots.len() {
-        slots[i] = without(slots[i], group);
+    for slot in slots.iter_mut() {
+        *slot = without(*slot, group);
     }
 }
 
 impl<'a, R: Keyed> Register<'a, R> {
-    fn place(&self, key: R::Key) -> usize
-        ensures { result ≡ put_place (R.Keyed.keyed key) self.now.slots.now }
+    fn place(&self, key: R::Key) -> Option<usize>
+        ensures { result ≡ place_in self.now.slots.now (put_place (R.Keyed.keyed key) self.now.slots.now) }
     {
         place_for(self.slots, key)
     }
@@ -142,12 +134,13 @@ impl<'a, R: Keyed> Register<'a, R> {
         ensures after { self.new.slots.now ≡ put_after (R.Keyed.keyed (R.Keyed.key_of r)) r self.old.slots.now }
         ensures lent { self.new.slots.ghost_name ≡ self.old.slots.ghost_name }
     {
-        let at = self.place(r.key());
-        if at < self.slots.len() {
-            self.slots[at] = Some(r);
-            return Ok(());
+        match self.place(r.key()) {
+            Some(at) => {
+                self.slots[at] = Some(r);
+                Ok(())
+            }
+            None => Err(Full),
         }
-        Err(Full)
     }
 
     /// The first record with the key.

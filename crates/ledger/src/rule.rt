@@ -15,7 +15,7 @@ const MAX_WEIGHTS: usize = 400;
 const MAX_WEIGHT_SUM: u64 = 87_840_000_000;
 
 /// Why a total is not shared.
-#[derive(Clone, Copy)]
+#[derive(Clone, Copy, Debug, PartialEq, Eq)]
 pub enum ShareFault {
     /// The total, the number of weights or their sum is outside its limits, or there is not one place for each share.
     OutsideLimits,
@@ -86,13 +86,14 @@ fn limited_sum(weights: &[u64]) -> Option<u64>
 }
 
 /// The weights' sum, where all is within the limits and there is a place for each share.
+// What `share` is given goes on as it came: the interface of a rule takes the three apart.
 fn sum_in_limits(total: i64, weights: &[u64], places: usize) -> Option<u64>
     ensures { result ≡ (if in_limits total weights.now && places == length weights.now then Some (sum weights.now) else None) }
 {
     if total.unsigned_abs() > MAX_TOTAL {
         return None;
     }
-    if weights.len() == 0 || weights.len() > MAX_WEIGHTS || places != weights.len() {
+    if weights.is_empty() || weights.len() > MAX_WEIGHTS || places != weights.len() {
         return None;
     }
     limited_sum(weights)
@@ -102,9 +103,7 @@ fn sum_in_limits(total: i64, weights: &[u64], places: usize) -> Option<u64>
 pub(crate) fn accept(total: i64, weights: &[u64], places: usize) -> Result<u64, ShareFault>
     ensures { result ≡ unless_refused nothing_to_share_by total weights.now places (sum weights.now) }
 {
-    let Some(sum) = sum_in_limits(total, weights, places) else {
-        return Err(ShareFault::OutsideLimits);
-    };
+    let sum = sum_in_limits(total, weights, places).ok_or(ShareFault::OutsideLimits)?;
     if sum == 0 && total != 0 {
         return Err(ShareFault::NothingToShareBy);
     }

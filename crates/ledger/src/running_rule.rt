@@ -6,7 +6,7 @@ ghost use Rattle.ledger.specs.RunningLemmas.{running_lawful};
 use crate::rule::{ShareFault, ShareRule, accept, with_sign};
 
 /// Each row gets what the total's part up to it grows by.
-#[derive(Clone, Copy)]
+#[derive(Clone, Copy, Debug, PartialEq, Eq)]
 pub struct RunningRule;
 
 impl ShareRule for RunningRule {
@@ -30,8 +30,9 @@ impl ShareRule for RunningRule {
         let divisor = sum.max(1);
         let mut reached = 0;
         let mut given = 0;
-        for i in 0..weights.len() {
-            reached += weights[i];
+        // The row's place in `out` is written by its number: what a `zip` with `iter_mut` leaves behind is not known.
+        for (i, weight) in weights.iter().enumerate() {
+            reached += *weight;
             let upto = size * reached / divisor;
             out[i] = with_sign(total, upto - given);
             given = upto;

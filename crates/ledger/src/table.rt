@@ -5,6 +5,7 @@ ghost use Rattle.ledger.specs.PlaceLaws.{PlaceLaws};
 ghost use Rattle.ledger.specs.SumLaws.{SumLaws};
 
 /// The place of a column in a row of `width` columns.
+// Width and row stay two numbers: a struct of them would be made for one call and dropped.
 pub fn place2(width: u16, row: u16, column: u16) -> usize
     ensures value { result ≡ at2 width row column }
     ensures inside { (rows : ℕ) → row < rows → column < width → result < rows * width }
@@ -25,12 +26,7 @@ pub fn line_of<T>(xs: &[T], width: u16, row: u16) -> Option<&[T]>
     ensures { MatchOption result (length xs.now < row * width + width) (λ s. (row * width + width ≤ length xs.now) × (s.now ≡ line width row xs.now)) }
 {
     let start = place2(width, row, 0);
-    let end = start + width as usize;
-    if end <= xs.len() {
-        Some(&xs[start..end])
-    } else {
-        None
-    }
+    xs.get(start..start + width as usize)
 }
 
 /// Writes a row of `width` places, if it lies inside and `new` has the width.

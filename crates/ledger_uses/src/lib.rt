@@ -9,7 +9,7 @@ ghost use Rattle.std.proofs.Common.{rules};
 
 use ledger::register::{Full, Keyed, Register, register_laws};
 
-#[derive(Clone, Copy)]
+#[derive(Clone, Copy, Debug, PartialEq, Eq)]
 pub struct Parcel {
     pub week: u32,
     pub shelf: u16,
@@ -17,7 +17,7 @@ pub struct Parcel {
     pub weight: u32,
 }
 
-#[derive(Clone, Copy)]
+#[derive(Clone, Copy, Debug, PartialEq, Eq)]
 pub struct Place {
     pub week: u32,
     pub shelf: u16,
@@ -50,7 +50,7 @@ impl Keyed for Parcel {
     }
 
     fn has_key(&self, key: Place) -> bool {
-        self.week == key.week && self.shelf == key.shelf && self.tray == key.tray
+        self.key() == key
     }
 
     fn belongs(&self, group: u32) -> bool {

@@ -28,11 +28,7 @@ fn add_up(column: &[i64]) -> i64
     requires { (n : ℕ) → unsigned_abs (sumℤ (take n column.now)) ≤ most_total }
     ensures { result ≡ sumℤ column.now }
 {
-    let mut sum = 0;
-    for x in column {
-        sum += *x;
-    }
-    sum
+    column.iter().copied().sum()
 }
 
 /// The worked figures follow from the definitions.

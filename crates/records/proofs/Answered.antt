@@ -1,30 +1,26 @@
 -- What the reader answers, and what its parts answer, joined.
-use Rattle.std.proofs.Common.{◌≡◌, ℕ, ◌+◌, ◌*◌, ◌≤◌, Bool, true, false, List, [], ◌∷◌, ◌++◌, map, length, take, drop, ℤ, Some, None, Ok, Err, codes, Option, Result, sym, refl, ap, ◌∙◌, subst, arith, Bor}
+use Rattle.std.proofs.Common.{◌≡◌, ℕ, ◌+◌, Bool, true, false, List, [], ◌++◌, map, length, drop, ℤ, Some, None, Ok, Err, codes, Option, Result, sym, refl, ap, ◌∙◌, subst, arith}
 use Rattle.std.specs.List.{AllByRecursion}
-use Rattle.std.proofs.lemmas.List.{append-nil, append_cancel_left, length-map, length-append, length-take-le, drop_at}
+use Rattle.std.proofs.lemmas.List.{append-nil, append_cancel_left, length-append, drop_at}
 use Rattle.ledger.specs.Grounds.{demand, ask}
 use Rattle.records.specs.Text.{after}
 use Rattle.records.specs.Numbers.{Short}
 use Rattle.records.specs.Format.{keys, letter, kind_by, kind_of, numbers_in, made_of, line, body, written, Writable}
-use Rattle.records.specs.Lines.{value_in, is_field, seen, texts}
-use Rattle.records.specs.Outcome.{bad_key, values, past, bad_value, amount, unless, took, taken, read_as, outcome, some, next_of, sights}
+use Rattle.records.specs.Lines.{value_in, is_field}
+use Rattle.records.specs.Outcome.{bad_key, values, past, bad_value, amount, unless, took, taken, read_as, outcome, some}
 use Rattle.records.specs.Exact.{Accepted, Apart}
 use Rattle.records.specs.declared.body.Taken.{Taken}
 use Rattle.records.specs.declared.fault.TextFault.{TextFault}
 use Rattle.records.specs.declared.fault.TextFault.TheVariants.{WrongKey, UnknownKind, MalformedValue}
-use Rattle.records.specs.declared.field.Field.{Field}
 use Rattle.records.specs.declared.kind.Kind.{Kind}
 use Rattle.records.specs.declared.kind.Record.{Record}
 use Rattle.records.proofs.Table.{keys_bare, letter_bare, letter_kind, made_kind, made_firsts, made_again, numbers_count, kind_letter}
-use Rattle.records.proofs.Whole.{line_append, line_whole, line_parts, body_whole, body_parts, body_length, firsts_all}
+use Rattle.records.proofs.Whole.{line_append, line_whole, line_parts, body_whole, body_parts, firsts_all}
 
 -- what was not refused
-never : {X Y : Type 0} (e : TextFault) (y : Y) → ◌≡◌ {A = Result Y TextFault} (Err e) (Ok y) → X
-never e y h = let z : ◌≡◌ {A = ℕ} 0 1 = cc in absurd (omega arith)
-
 cleared : {Y : Type 0} (o : Option ℕ) (g : ℕ → TextFault) (r : Result Y TextFault) (y : Y) → unless o g r ≡ Ok y → (o ≡ None) × (r ≡ Ok y)
 cleared None g r y h = (refl, h)
-cleared (Some n) g r y h = never (g n) y h
+cleared (Some n) g r y h = absurd cc
 
 -- past the kind
 pub went : (t : List ℕ) (n : ℕ) (k : Kind) → is_field (codes "kind") t ≡ true → kind_by (value_in t) ≡ Some k → outcome t n ≡ took n (read_as k (after 10 t) (n + 1))
@@ -61,15 +57,15 @@ read_parts r t rest n s e =
 
 demanded : {Y : Type 0} (b : Bool) (e : TextFault) (r : Result Y TextFault) (y : Y) → demand b e r ≡ Ok y → (b ≡ true) × (r ≡ Ok y)
 demanded true e r y h = (refl, h)
-demanded false e r y h = never e y h
+demanded false e r y h = absurd cc
 
 asked : {X Y : Type 0} (o : Option X) (e : TextFault) (f : X → Result Y TextFault) (y : Y) → ask o e f ≡ Ok y → (x : X) × (o ≡ Some x) × (f x ≡ Ok y)
 asked (Some x) e f y h = (x, refl, h)
-asked None e f y h = never e y h
+asked None e f y h = absurd cc
 
 took_parts : (n : ℕ) (o : Result Record TextFault) (x : Taken) → took n o ≡ Ok x → (r : Record) × (o ≡ Ok r) × (x ≡ taken n r)
 took_parts n (Ok r) x h = (r, refl, cc)
-took_parts n (Err e) x h = never e x h
+took_parts n (Err e) x h = absurd cc
 
 pub accepted : (t : List ℕ) (n : ℕ) (o : Result Taken TextFault) → outcome t n ≡ o → Accepted t n (some o)
 accepted t n (Err e) h = tt
@@ -80,14 +76,6 @@ accepted t n (Ok x) h =
     let w = next_whole t n b.0 c.0 a.0 b.1 c.1 in
     let d : drop (length (written c.0)) t ≡ past (keys b.0) (after 10 t) = ap (drop (length (written c.0))) w.0 ∙ drop_at (written c.0) (past (keys b.0) (after 10 t)) (length (written c.0)) refl in
     subst (λ y. Accepted t n (Ok (Some y))) (sym c.2) (refl, w.2, w.0 ∙ ap (λ y. written c.0 ++ y) (sym d))
-
-pub next_none : (t : List ℕ) (n : ℕ) → length t ≡ 0 → Ok None ≡ next_of t n
-next_none [] n l = refl
-next_none (c ∷ t) n l = absurd (omega arith)
-
-pub next_some : (t : List ℕ) (n : ℕ) → (length t ≡ 0 → ⊥) → next_of t n ≡ some (outcome t n)
-next_some [] n l = absurd (l refl)
-next_some (c ∷ t) n l = refl
 
 -- no record's text begins another's
 one_front : (r s : Record) (a b : List ℕ) → Writable r → Writable s → written r ++ a ≡ written s ++ b → r ≡ s
@@ -106,44 +94,11 @@ no_front r s more p q e =
 pub apart : Apart
 apart = record { one_front = one_front; one_text = λ r s p q e. one_front r s [] [] p q (ap (λ x. x ++ []) e); no_front = no_front }
 
--- the lines of a record's text are at most half its bytes
-pub sparse : (r : Record) → 2 * (1 + length (keys (kind_of r))) ≤ length (written r)
-sparse r =
-    let b = body_length (keys (kind_of r)) (numbers_in r) (numbers_count r) in
-    let l = length-append (letter (kind_of r)) (10 ∷ body (keys (kind_of r)) (numbers_in r)) in
-    omega arith
-
--- what the parts of the reader answer, joined
-module _ (k : Kind) (names : List (Bor (List ℕ))) (t : List ℕ) (n : ℕ) (out : List Field) (rest : List ℕ) (are : texts names ≡ keys k) (h : (bad_key (texts names) t n ≡ None) × (sights (take (length (texts names)) out) ≡ values (texts names) t n) × (rest ≡ past (texts names) t)) where
-  keyed : bad_key (keys k) t n ≡ None
-  keyed = ap (λ x. bad_key x t n) (sym are) ∙ h.0
-
-  valued : sights (take (length names) out) ≡ values (keys k) t n
-  valued = ap (λ x. sights (take x out)) (sym (length-map names (λ x. x.now))) ∙ (h.1 ∙ ap (λ x. values x t n) are)
-
-  pub number_refused : (e : TextFault) → (m : ℕ) × (bad_value (sights (take (length names) out)) ≡ Some m) × (e ≡ MalformedValue m) → read_as k t n ≡ Err e
-  number_refused e g =
-      let b : bad_value (values (keys k) t n) ≡ Some g.0 = ap bad_value (sym valued) ∙ g.1 in
-      simp (keyed, b) (ap (λ x. Err x) (sym g.2))
-
-  pub body_read : (found : List ℤ) (r : Record) → length names ≤ length out → (bad_value (sights (take (length names) out)) ≡ None) × (take (length (sights (take (length names) out))) found ≡ map amount (sights (take (length names) out))) → r ≡ made_of k (take (length names) found) → (read_as k t n ≡ Ok r) × (rest ≡ past (keys k) t)
-  body_read found r l g e =
-      let b : bad_value (values (keys k) t n) ≡ None = ap bad_value (sym valued) ∙ g.0 in
-      let m : length (sights (take (length names) out)) ≡ length names = length-map (take (length names) out) seen ∙ length-take-le (length names) out l in
-      let z : take (length names) found ≡ map amount (values (keys k) t n) = ap (λ x. take x found) (sym m) ∙ (g.1 ∙ ap (map amount) valued) in
-      (simp (keyed, b) (ap (λ x. Ok x) (ap (made_of k) (sym z) ∙ sym e)), h.2 ∙ ap (λ x. past x t) are)
-
-pub key_refused : (k : Kind) (names : List (Bor (List ℕ))) (t : List ℕ) (n : ℕ) (e : TextFault) → texts names ≡ keys k → (m : ℕ) × (bad_key (texts names) t n ≡ Some m) × (e ≡ WrongKey m) → read_as k t n ≡ Err e
-key_refused k names t n e are g =
-    let b : bad_key (keys k) t n ≡ Some g.0 = ap (λ x. bad_key x t n) (sym are) ∙ g.1 in
-    simp b (ap (λ x. Err x) (sym g.2))
-
-pub next_read : (t : List ℕ) (n : ℕ) (k : Kind) (rest left : List ℕ) (r : Record) → (is_field (codes "kind") t ≡ true) × (kind_by (value_in t) ≡ Some k) × (rest ≡ after 10 t) → (read_as k rest (n + 1) ≡ Ok r) × (left ≡ past (keys k) rest) → (length t ≡ length (written r) + length left) × (kind_of r ≡ k) × (outcome t n ≡ Ok (taken n r))
-next_read t n k rest left r f h =
-    let p : read_as k (after 10 t) (n + 1) ≡ Ok r = ap (λ x. read_as k x (n + 1)) (sym f.2) ∙ h.0 in
+pub next_read : (t : List ℕ) (n : ℕ) (k : Kind) (rest left : List ℕ) (m l : ℕ) (r : Record) → (is_field (codes "kind") t ≡ true) × (kind_by (value_in t) ≡ Some k) × (rest ≡ after 10 t) × (m ≡ n + 1) → (read_as k rest m ≡ Ok r) × (left ≡ past (keys k) rest) × (l ≡ m + length (keys k)) → (length t ≡ length (written r) + length left) × (l ≡ n + (1 + length (keys (kind_of r)))) × (outcome t n ≡ Ok (taken n r))
+next_read t n k rest left m l r f h =
+    let p : read_as k (after 10 t) (n + 1) ≡ Ok r = rw (← f.2, ← f.3) h.0 in
     let w = next_whole t n k r f.0 f.1 p in
-    let l : left ≡ past (keys k) (after 10 t) = h.1 ∙ ap (past (keys k)) f.2 in
-    (ap length w.0 ∙ (length-append (written r) (past (keys k) (after 10 t)) ∙ ap (λ x. length (written r) + length x) (sym l)), w.1, went t n k f.0 f.1 ∙ ap (took n) p)
-
-pub next_refused : (t : List ℕ) (n : ℕ) (k : Kind) (rest : List ℕ) (e : TextFault) → (is_field (codes "kind") t ≡ true) × (kind_by (value_in t) ≡ Some k) × (rest ≡ after 10 t) → read_as k rest (n + 1) ≡ Err e → outcome t n ≡ Err e
-next_refused t n k rest e f h = went t n k f.0 f.1 ∙ ap (took n) (ap (λ x. read_as k x (n + 1)) (sym f.2) ∙ h)
+    let e = ap length w.0 ∙ length-append (written r) (past (keys k) (after 10 t)) in
+    let a = ap length (h.1 ∙ ap (past (keys k)) f.2) in
+    let b = ap (λ x. length (keys x)) w.1 in
+    (omega arith, omega (arith, h.2, f.3), went t n k f.0 f.1 ∙ ap (took n) p)

@@ -36,11 +36,6 @@ natural_some ds d some short z =
 pub value_under : (ds : List ℕ) (k : ℕ) → AllDigits 10 ds → length ds ≤ k → digits_value 10 ds < 10 ^ k
 value_under ds k d l = digits_value_short own ds k d l
 
--- with the sign
-pub plain_none : (v : List ℕ) → Natural v None → (0 < length v → get_or v 0 0 ≡ 45 → ⊥) → Exact v None
-plain_none v h m (pos n) s e = h n s e
-plain_none v h m (negsuc n) s e = let l = ap length e in m (omega arith) (ap (λ x. get_or x 0 0) e)
-
 module _ (v : List ℕ) (some : 0 < length v) (minus : get_or v 0 0 ≡ 45) where
   after_sign : v ≡ 45 ∷ drop 1 v
   after_sign = drop_more v 0 0 some ∙ ap (λ c. c ∷ drop 1 v) minus
@@ -80,7 +75,7 @@ proper_decimal z s =
 pub proper_is : (v : List ℕ) → proper v ≡ true → Short (reading v) × (v ≡ decimal (reading v))
 proper_is v h = let p = and_parts _ _ h in (ltb-true _ _ p.0, (bytes_eq-Decides v (decimal (reading v))).0 p.1)
 
-pub exact_answer : (v : List ℕ) (r : Option ℤ) → Exact v r → r ≡ number_of v
+exact_answer : (v : List ℕ) (r : Option ℤ) → Exact v r → r ≡ number_of v
 exact_answer v (Some z) h =
     let e = reads_back z h.0 in
     let p = proper_decimal z h.0 in
@@ -91,3 +86,6 @@ exact_answer v None h = go (proper v) refl
     go : (t : Bool) → proper v ≡ t → ◌≡◌ {A = Option ℤ} None (cond t (Some (reading v)) None)
     go true e = let p = proper_is v e in absurd (h (reading v) p.0 p.1)
     go false e = refl
+
+pub answered : (v : List ℕ) (r : Option ℤ) → Exact v r → record { exact : Exact v r; answer : r ≡ number_of v }
+answered v r x = record { exact = x; answer = exact_answer v r x }

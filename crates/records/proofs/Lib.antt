@@ -2,7 +2,6 @@ pub mod Text
 pub mod Decimals
 pub mod Whole
 pub mod Table
-pub mod Steps
 pub mod Answered
 pub mod Refusals
 pub mod Exactness

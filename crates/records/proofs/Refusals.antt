@@ -48,7 +48,7 @@ is_keyed : (key t : List ℕ) → bare key ≡ true → KeyedLine key t → is_f
 is_keyed key t h l = (begun key l.value t h l.begins).0
 
 clash : {X : Type 0} (x : Bool) → x ≡ true → x ≡ false → X
-clash x p q = let z : true ≡ false = sym p ∙ q in let n : ◌≡◌ {A = ℕ} 0 1 = cc in absurd (omega arith)
+clash x p q = let z : true ≡ false = sym p ∙ q in absurd cc
 
 not_keyed : (key t : List ℕ) (x : Bool) → is_field key t ≡ x → (KeyedLine key t → ⊥) → x ≡ false
 not_keyed key t true e h = absurd (h (keyed key t e))
@@ -63,7 +63,7 @@ wrong_more k ks t j e f = record { inside = let l = f.inside in omega arith; wro
     earlier (suc i) l = f.before i (omega arith)
 
 wrong_some : (ks : List (List ℕ)) (t : List ℕ) (n m : ℕ) → all_bare ks ≡ true → bad_key ks t n ≡ Some m → (j : ℕ) × (m ≡ n + j) × FirstWrong ks t j
-wrong_some [] t n m a h = let z : ◌≡◌ {A = ℕ} 0 1 = cc in absurd (omega arith)
+wrong_some [] t n m a h = absurd cc
 wrong_some (k ∷ ks) t n m a h = let p = and_parts (bare k) (all_bare ks) a in go (is_field k t) refl h p.0 (wrong_some ks (after 10 t) (n + 1) m p.1)
   where
     go : (x : Bool) → is_field k t ≡ x → cond x (bad_key ks (after 10 t) (n + 1)) (Some n) ≡ Some m → bare k ≡ true → (bad_key ks (after 10 t) (n + 1) ≡ Some m → (j : ℕ) × (m ≡ n + 1 + j) × FirstWrong ks (after 10 t) j) → (j : ℕ) × (m ≡ n + j) × FirstWrong (k ∷ ks) t j
@@ -89,7 +89,7 @@ keyed_all (k ∷ ks) t n h i l = go (is_field k t) refl h i l (keyed_all ks (aft
     go : (x : Bool) → is_field k t ≡ x → cond x (bad_key ks (after 10 t) (n + 1)) (Some n) ≡ None → (i : ℕ) → i < suc (length ks) → (bad_key ks (after 10 t) (n + 1) ≡ None → (i : ℕ) → i < length ks → KeyedLine (get_or ks i []) (from_line i (after 10 t))) → KeyedLine (get_or (k ∷ ks) i []) (from_line i t)
     go true e g zero l f = keyed k t e
     go true e g (suc i) l f = f g i (omega arith)
-    go false e g i l f = let z : ◌≡◌ {A = ℕ} 0 1 = cc in absurd (omega arith)
+    go false e g i l f = absurd cc
 
 keyed_none : (ks : List (List ℕ)) (t : List ℕ) (n : ℕ) → all_bare ks ≡ true → ((i : ℕ) → i < length ks → KeyedLine (get_or ks i []) (from_line i t)) → bad_key ks t n ≡ None
 keyed_none [] t n a f = refl
@@ -122,7 +122,7 @@ bad_more k ks t j e f = record { inside = let l = f.inside in omega arith; malfo
     earlier (suc i) l = f.before i (omega arith)
 
 bad_some : (ks : List (List ℕ)) (t : List ℕ) (n m : ℕ) → bad_value (values ks t n) ≡ Some m → (j : ℕ) × (m ≡ n + j) × FirstBad ks t j
-bad_some [] t n m h = let z : ◌≡◌ {A = ℕ} 0 1 = cc in absurd (omega arith)
+bad_some [] t n m h = absurd cc
 bad_some (k ∷ ks) t n m h = go (proper (value_in t)) refl h (bad_some ks (after 10 t) (n + 1) m)
   where
     go : (x : Bool) → proper (value_in t) ≡ x → cond x (bad_value (values ks (after 10 t) (n + 1))) (Some n) ≡ Some m → (bad_value (values ks (after 10 t) (n + 1)) ≡ Some m → (j : ℕ) × (m ≡ n + 1 + j) × FirstBad ks (after 10 t) j) → (j : ℕ) × (m ≡ n + j) × FirstBad (k ∷ ks) t j
@@ -149,12 +149,12 @@ module _ (t : List ℕ) (n : ℕ) (e : TextFault) where
       let q : MalformedValue m ≡ e = cc in
       let v = bad_some (keys k) (after 10 t) (n + 1) m y in
       subst (Refused t n) q (k, s, (v.0, v.1, record { inside = v.2.inside; keyed = keyed_all (keys k) (after 10 t) (n + 1) x; malformed = v.2.malformed; before = v.2.before }))
-  body_refused k s None x None y r h = let z : ◌≡◌ {A = ℕ} 0 1 = cc in absurd (omega arith)
+  body_refused k s None x None y r h = absurd cc
 
   kind_refused : is_field (codes "kind") t ≡ true → (o : Option Kind) → kind_by (value_in t) ≡ o → ask o (UnknownKind n) (λ k. took n (read_as k (after 10 t) (n + 1))) ≡ Err e → Refused t n e
   kind_refused f None g h =
       let q : UnknownKind n ≡ e = cc in
-      subst (Refused t n) q (refl, (value_in t, begins (codes "kind") t f, λ k i. let c : Some k ≡ None = sym (letter_kind k) ∙ (ap kind_by (sym i) ∙ g) in let z : ◌≡◌ {A = ℕ} 0 1 = cc in omega arith))
+      subst (Refused t n) q (refl, (value_in t, begins (codes "kind") t f, λ k i. let c : Some k ≡ None = sym (letter_kind k) ∙ (ap kind_by (sym i) ∙ g) in cc))
   kind_refused f (Some k) g h =
       let s : Begins (codes "kind") (letter k) t = subst (λ v. Begins (codes "kind") v t) (kind_letter (value_in t) k g) (begins (codes "kind") t f) in
       body_refused k s (bad_key (keys k) (after 10 t) (n + 1)) refl (bad_value (values (keys k) (after 10 t) (n + 1))) refl _ h

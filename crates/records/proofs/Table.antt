@@ -1,5 +1,5 @@
 -- The table of kinds: each letter stands for its kind, and each kind's numbers are as many as its keys.
-use Rattle.std.proofs.Common.{◌≡◌, ℕ, Bool, true, false, cond, List, [], ◌∷◌, length, get_or, ℤ, Some, None, sym, refl, ap, ◌∙◌, arith}
+use Rattle.std.proofs.Common.{◌≡◌, ℕ, Bool, true, false, cond, List, [], ◌∷◌, length, ℤ, Some, None, refl, ap, ◌∙◌}
 use Rattle.std.specs.Str.{bytes_eq}
 use Rattle.std.proofs.lemmas.Slice.Eq.{bytes_eq-Decides}
 use Rattle.records.specs.Text.{has}
@@ -54,21 +54,6 @@ letter_kind kind.Trade = refl
 letter_kind kind.CloseDay = refl
 letter_kind kind.Reading = refl
 letter_kind kind.CloseMonth = refl
-
-letter_one : (k : Kind) → length (letter k) ≡ 1
-letter_one kind.Book = refl
-letter_one kind.Point = refl
-letter_one kind.Start = refl
-letter_one kind.EntryMeasurement = refl
-letter_one kind.ZoneMeasurement = refl
-letter_one kind.Weather = refl
-letter_one kind.Profile = refl
-letter_one kind.Statement = refl
-letter_one kind.DailyQuantity = refl
-letter_one kind.Trade = refl
-letter_one kind.CloseDay = refl
-letter_one kind.Reading = refl
-letter_one kind.CloseMonth = refl
 
 pub made_kind : (k : Kind) → (zs : List ℤ) → kind_of (made_of k zs) ≡ k
 made_kind kind.Book zs = refl
@@ -132,7 +117,7 @@ numbers_count rec.CloseMonth = refl
 
 -- a value that is a kind's letter
 among_letter : (ks : List Kind) (v : List ℕ) (k : Kind) → kind_among ks v ≡ Some k → v ≡ letter k
-among_letter [] v k h = let z : ◌≡◌ {A = ℕ} 0 1 = cc in absurd (omega arith)
+among_letter [] v k h = absurd cc
 among_letter (j ∷ ks) v k h = go (bytes_eq v (letter j)) refl h (among_letter ks v k)
   where
     go : (x : Bool) → bytes_eq v (letter j) ≡ x → cond x (Some j) (kind_among ks v) ≡ Some k → (kind_among ks v ≡ Some k → v ≡ letter k) → v ≡ letter k
@@ -150,18 +135,3 @@ among_none (j ∷ ks) v h = go (bytes_eq v (letter j)) refl (among_none ks v h)
     go : (x : Bool) → bytes_eq v (letter j) ≡ x → None ≡ kind_among ks v → None ≡ cond x (Some j) (kind_among ks v)
     go true e f = absurd (h j ((bytes_eq-Decides v (letter j)).0 e))
     go false e f = f
-
-pub not_one : (v : List ℕ) → (length v ≡ 1 → ⊥) → None ≡ kind_by v
-not_one v h = among_none every_kind v (λ k e. h (ap length e ∙ letter_one k))
-
--- a value of one byte
-alone : (v : List ℕ) (c : ℕ) → length v ≡ 1 → c ≡ get_or v 0 0 → v ≡ c ∷ []
-alone [] c l e = absurd (omega arith)
-alone (d ∷ []) c l e = ap (λ x. x ∷ []) (sym e)
-alone (d ∷ b ∷ v) c l e = absurd (omega arith)
-
-pub kind_at : (v : List ℕ) (c : ℕ) (k : Kind) → length v ≡ 1 → c ≡ get_or v 0 0 → c ∷ [] ≡ letter k → Some k ≡ kind_by v
-kind_at v c k l e h = sym (ap kind_by (alone v c l e ∙ h) ∙ letter_kind k)
-
-pub no_kind : (v : List ℕ) (c : ℕ) → length v ≡ 1 → c ≡ get_or v 0 0 → ((k : Kind) → c ≡ get_or (letter k) 0 0 → ⊥) → None ≡ kind_by v
-no_kind v c l e h = among_none every_kind v (λ k q. h k (e ∙ ap (λ x. get_or x 0 0) q))

@@ -1,31 +1,33 @@
--- A search for a byte, step by step.
-use Rattle.std.proofs.Common.{◌≡◌, ℕ, ◌+◌, ◌<◌, ◌≤◌, true, false, List, [], ◌∷◌, ◌++◌, length, get_or, take, drop, sym, ap, ◌∙◌}
-use Rattle.std.proofs.lemmas.List.{drop_more, take_more, drop_all, append_assoc, append-nil}
-use Rattle.std.proofs.lemmas.Bool.{ne_eqb, eq-eqb}
+-- The search for a byte, in the words of the definitions.
+use Rattle.std.proofs.Common.{◌≡◌, ℕ, zero, suc, ◌+◌, ◌<◌, Bool, true, false, cond, ◌||◌, ◌==◌, List, [], ◌∷◌, length, get_or, take, drop, Some, None, position, refl, sym, ap, ◌∙◌, add-one, arith}
+use Rattle.std.proofs.lemmas.List.Quantifiers.{position-Some}
+use Rattle.std.proofs.lemmas.List.Recursion.{or_from_places}
+use Rattle.std.proofs.lemmas.List.Sums.{fails_before_first}
+use Rattle.std.proofs.lemmas.Bool.Decides.{nat_tests}
 use Rattle.records.specs.Text.{has, before, after}
 
--- a search has come to the place i and not met b
-abbrev pub Come : ℕ → List ℕ → ℕ → Type 0
-Come b t i = (has b t ≡ has b (drop i t)) × (before b t ≡ take i t ++ before b (drop i t)) × (after b t ≡ after b (drop i t))
+-- the first b stands at the place i
+found : (b : ℕ) (t : List ℕ) (i : ℕ) → i < length t → (get_or t i 0 == b) ≡ true → ((k : ℕ) → k < i → (get_or t k 0 == b) ≡ false) → (has b t ≡ true) × (take i t ≡ before b t) × (drop (i + 1) t ≡ after b t)
+found b [] i l y n = absurd (omega arith)
+found b (c ∷ t) zero l y n = (simp y, simp y, simp y)
+found b (c ∷ t) (suc i) l y n =
+    let r = found b t i (omega arith) y (λ k h. n (suc k) (omega arith)) in
+    let e : (c == b) ≡ false = n 0 (omega arith) in
+    let d : drop (suc i + 1) (c ∷ t) ≡ drop (i + 1) t = ap (λ k. drop k (c ∷ t)) (add-one (suc i)) ∙ ap (λ k. drop k t) (sym (add-one i)) in
+    (simp e r.0, simp e (ap (λ x. c ∷ x) r.1), simp e (d ∙ r.2))
 
-pub come_more : (b : ℕ) (t : List ℕ) (i : ℕ) → i < length t → (get_or t i 0 ≡ b → ⊥) → Come b t i → Come b t (i + 1)
-come_more b t i l ne a =
-    let d = drop_more t i 0 l in
-    let m = take_more t i 0 l in
-    let e = ne_eqb _ _ ne in
-    let h : has b (drop i t) ≡ has b (drop (i + 1) t) = ap (has b) d ∙ simp e in
-    let p : before b (drop i t) ≡ get_or t i 0 ∷ before b (drop (i + 1) t) = ap (before b) d ∙ simp e in
-    let q : after b (drop i t) ≡ after b (drop (i + 1) t) = ap (after b) d ∙ simp e in
-    (a.0 ∙ h, a.1 ∙ (ap (λ x. take i t ++ x) p ∙ (sym (append_assoc (take i t) (get_or t i 0 ∷ []) (before b (drop (i + 1) t))) ∙ ap (λ x. x ++ before b (drop (i + 1) t)) (sym m))), a.2 ∙ q)
+pub split_there : (b : ℕ) (t : List ℕ) (i : ℕ) → Some i ≡ position (λ x. x == b) t → (has b t ≡ true) × (take i t ≡ before b t) × (drop (i + 1) t ≡ after b t)
+split_there b t i h = let p = position-Some (λ x. x == b) t i 0 (sym h) in found b t i p.0 p.1 p.2
 
-pub come_there : (b : ℕ) (t : List ℕ) (i : ℕ) → i < length t → get_or t i 0 ≡ b → Come b t i → (has b t ≡ true) × (take i t ≡ before b t) × (drop (i + 1) t ≡ after b t)
-come_there b t i l y a =
-    let d = drop_more t i 0 l in
-    let e = eq-eqb _ _ y in
-    let h : has b (drop i t) ≡ true = ap (has b) d ∙ simp e in
-    let p : before b (drop i t) ≡ [] = ap (before b) d ∙ simp e in
-    let q : after b (drop i t) ≡ drop (i + 1) t = ap (after b) d ∙ simp e in
-    (a.0 ∙ h, sym (a.1 ∙ (ap (λ x. take i t ++ x) p ∙ append-nil (take i t))), sym (a.2 ∙ q))
+pub split_nowhere : (b : ℕ) (t : List ℕ) → None ≡ position (λ x. x == b) t → has b t ≡ false
+split_nowhere b t h =
+    or_from_places (has b) (λ x. x == b) refl (λ _ _. refl) t 0 (λ k l. fails_before_first (λ x. x == b) t k 0 (grind (arith, nat_tests)))
 
-pub come_all : (b : ℕ) (t : List ℕ) (i : ℕ) → length t ≤ i → Come b t i → has b t ≡ false
-come_all b t i l a = a.0 ∙ ap (has b) (drop_all i t l)
+-- what follows a byte is shorter
+shorter_at : (b : ℕ) (t : List ℕ) (e : Bool) → (e || has b t) ≡ true → (has b t ≡ true → length (after b t) < length t) → length (cond e t (after b t)) < suc (length t)
+shorter_at b t true h more = omega arith
+shorter_at b t false h more = let m = more h in omega arith
+
+pub after_shorter : (b : ℕ) (t : List ℕ) → has b t ≡ true → length (after b t) < length t
+after_shorter b [] h = cc
+after_shorter b (c ∷ t) h = shorter_at b t (c == b) h (after_shorter b t)

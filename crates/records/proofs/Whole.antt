@@ -1,10 +1,10 @@
 -- A text that is read is the text of what was read, and the text of a record is read as that record.
-use Rattle.std.proofs.Common.{◌≡◌, ℕ, suc, ◌+◌, ◌*◌, ◌≤◌, Bool, true, false, cond, not, ◌&&◌, ◌||◌, eqb, List, [], ◌∷◌, ◌++◌, map, length, get_or, drop, ℤ, pos, negsuc, Some, None, Option, sym, refl, ap, ◌∙◌, add-one, arith}
+use Rattle.std.proofs.Common.{◌≡◌, ℕ, suc, ◌+◌, Bool, true, false, cond, not, ◌&&◌, ◌||◌, eqb, List, [], ◌∷◌, ◌++◌, map, length, get_or, drop, ℤ, pos, negsuc, Some, None, Option, sym, refl, ap, ◌∙◌, add-one, arith}
 use Rattle.std.specs.Str.Parse.{AllDigits}
 use Rattle.std.specs.Fmt as std_written
 use Rattle.std.specs.List.{AllByRecursion}
 use Rattle.std.specs.Str.{bytes_eq}
-use Rattle.std.proofs.lemmas.List.{length-append, append_assoc, drop_more, drop_all}
+use Rattle.std.proofs.lemmas.List.{append_assoc, drop_more, drop_all}
 use Rattle.std.proofs.lemmas.Bool.{eqb-true, eq-eqb, ne_eqb, and_parts, and_from, or_parts}
 use Rattle.std.proofs.lemmas.Slice.Eq.{bytes_eq-Decides}
 use Rattle.std.proofs.lemmas.Str.Parse.{digit_from_value}
@@ -17,7 +17,7 @@ use Rattle.records.proofs.Decimals.{all_digits, reads_back, proper_decimal, prop
 
 -- a text at its first b
 pub whole : (b : ℕ) (t : List ℕ) → has b t ≡ true → t ≡ before b t ++ b ∷ after b t
-whole b [] h = let z : ◌≡◌ {A = ℕ} 0 1 = cc in absurd (omega arith)
+whole b [] h = absurd cc
 whole b (c ∷ t) h = go (eqb c b) refl h (whole b t)
   where
     go : (x : Bool) → eqb c b ≡ x → (x || has b t) ≡ true → (has b t ≡ true → t ≡ before b t ++ b ∷ after b t) → c ∷ t ≡ cond x [] (c ∷ before b t) ++ b ∷ cond x t (after b t)
@@ -45,7 +45,7 @@ all_bare (k ∷ ks) = bare k && all_bare ks
 
 no : (x : Bool) → not x ≡ true → x ≡ false
 no false h = refl
-no true h = let z : ◌≡◌ {A = ℕ} 0 1 = cc in absurd (omega arith)
+no true h = absurd cc
 
 -- a line
 pub line_append : (k v more rest : List ℕ) → line k v more ++ rest ≡ line k v (more ++ rest)
@@ -84,7 +84,7 @@ bare_decimal (negsuc n) s = bare_digits (std_written.decimal (suc n)) (all_digit
 -- the lines for these keys
 none_parts : (x : Bool) (o : Option ℕ) (n : ℕ) → cond x o (Some n) ≡ None → (x ≡ true) × (o ≡ None)
 none_parts true o n h = (refl, h)
-none_parts false o n h = let z : ◌≡◌ {A = ℕ} 0 1 = cc in absurd (omega arith)
+none_parts false o n h = absurd cc
 
 pub body_whole : (ks : List (List ℕ)) (t : List ℕ) (n : ℕ) → bad_key ks t n ≡ None → bad_value (values ks t n) ≡ None → (t ≡ body ks (map amount (values ks t n)) ++ past ks t) × AllByRecursion Short (map amount (values ks t n)) × (length (map amount (values ks t n)) ≡ length ks)
 body_whole [] t n a b = (refl, tt, refl)
@@ -113,16 +113,6 @@ body_parts (k ∷ ks) (z ∷ zs) t rest n a l s e =
     let g : proper (value_in t) ≡ true = ap proper f.1 ∙ proper_decimal z s.0 in
     let m : reading (value_in t) ≡ z = ap reading f.1 ∙ reads_back z s.0 in
     record { keyed = simp f.0 r.keyed; valued = simp g r.valued; numbered = ap (λ x. x ∷ map amount (values ks (after 10 t) (n + 1))) m ∙ ap (λ x. z ∷ x) r.numbered }
-
--- a line has two bytes at least
-pub body_length : (ks : List (List ℕ)) (zs : List ℤ) → length zs ≡ length ks → 2 * length ks ≤ length (body ks zs)
-body_length [] zs l = omega arith
-body_length (k ∷ ks) [] l = absurd (omega arith)
-body_length (k ∷ ks) (z ∷ zs) l =
-    let r = body_length ks zs (omega arith) in
-    let a = length-append k (61 ∷ (decimal z ++ (10 ∷ body ks zs))) in
-    let b = length-append (decimal z) (10 ∷ body ks zs) in
-    omega arith
 
 -- the first numbers, one for each key
 abbrev pub firsts : ℕ → List (List ℕ) → List ℤ → List ℤ

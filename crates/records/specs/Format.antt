@@ -1,10 +1,12 @@
 -- The format: the letter and the keys of each kind, and the text of a record.
-use Rattle.std.specs.Prelude.{ℕ, cond, List, [], ◌∷◌, ◌++◌, ℤ, pos, Some, None, codes, Option, slice_index_or}
+use Rattle.std.specs.Prelude.{◌≡◌, ℕ, cond, List, [], ◌∷◌, ◌++◌, ℤ, pos, Some, None, Ok, Err, codes, Option, Result, slice_index_or}
+use Rattle.std.specs.Borrow.{Bor}
 use Rattle.std.specs.List.{AllByRecursion}
 use Rattle.std.specs.Str.{bytes_eq}
 use Rattle.records.specs.Numbers.{decimal, Short}
 use Rattle.records.specs.declared.kind.Kind.{Kind}
 use Rattle.records.specs.declared.kind.Kind.TheVariants as kind
+use Rattle.records.specs.declared.kind.UnknownKind.{UnknownKind}
 use Rattle.records.specs.declared.kind.Record.{Record}
 use Rattle.records.specs.declared.kind.Record.TheVariants as rec
 
@@ -48,6 +50,11 @@ kind_among (k ∷ ks) v = cond (bytes_eq v (letter k)) (Some k) (kind_among ks v
 
 abbrev pub kind_by : List ℕ → Option Kind
 kind_by v = kind_among every_kind v
+
+-- what a value is read as: the kind whose letter it is, or an error if it is no kind's letter
+abbrev pub Letter : Bor (List ℕ) → Result Kind UnknownKind → Type 0
+Letter value (Ok k) = kind_by value.now ≡ Some k
+Letter value (Err e) = kind_by value.now ≡ None
 
 abbrev pub kind_of : Record → Kind
 kind_of (rec.Book year month days users entries zones) = kind.Book

@@ -1,5 +1,5 @@
 -- The first line of a text: its key, its value, and what follows it.
-use Rattle.std.specs.Prelude.{◌≡◌, ℕ, Bool, true, false, ◌&&◌, List, map, Ok, Err, codes, Result}
+use Rattle.std.specs.Prelude.{◌≡◌, ℕ, ◌+◌, Bool, true, false, ◌&&◌, List, map, Ok, Err, codes, Result}
 use Rattle.std.specs.Borrow.{Bor}
 use Rattle.std.specs.Str.{bytes_eq}
 use Rattle.records.specs.Text.{has, before, after}
@@ -7,6 +7,7 @@ use Rattle.records.specs.declared.fault.TextFault.{TextFault}
 use Rattle.records.specs.declared.fault.TextFault.TheVariants.{WrongKey}
 use Rattle.records.specs.declared.field.Field.{Field}
 use Rattle.records.specs.declared.field.Field.TheVariants.{Kind, Number}
+use Rattle.records.specs.declared.lines.Lines.{Lines}
 
 -- that there is a whole line, with an equals sign
 abbrev pub splits : List ℕ → Bool
@@ -40,16 +41,17 @@ abbrev pub Sorted : Field → Type 0
 Sorted (Kind line value) = Unit {0}
 Sorted (Number line key value) = bytes_eq key.now (codes "kind") ≡ false
 
--- what the functions on a line answer
-pub record FieldAt (t : List ℕ) (n : ℕ) (f : Field) (rest : List ℕ) : Type 0 where
-  pub key_is : key_of f ≡ key_in t
-  pub seen_is : seen f ≡ (n, value_in t)
-  pub rest_is : rest ≡ after 10 t
+-- what the functions on the first line answer: its parts, and the lines after it
+pub record FieldAt (t : Lines) (f : Field) (rest : Lines) : Type 0 where
+  pub key_is : key_of f ≡ key_in t.text.now
+  pub seen_is : seen f ≡ (t.line, value_in t.text.now)
+  pub rest_is : rest.text.now ≡ after 10 t.text.now
+  pub line_is : rest.line ≡ t.line + 1
 
-abbrev pub Parted : List ℕ → ℕ → Result (Field × Bor (List ℕ)) TextFault → Type 0
-Parted t n (Ok p) = (splits t ≡ true) × Sorted p.0 × FieldAt t n p.0 p.1.now
-Parted t n (Err e) = (splits t ≡ false) × (e ≡ WrongKey n)
+abbrev pub Parted : Lines → Result (Field × Lines) TextFault → Type 0
+Parted t (Ok p) = (splits t.text.now ≡ true) × Sorted p.0 × FieldAt t p.0 p.1
+Parted t (Err e) = (splits t.text.now ≡ false) × (e ≡ WrongKey t.line)
 
-abbrev pub Keyed : List ℕ → List ℕ → ℕ → Result (Field × Bor (List ℕ)) TextFault → Type 0
-Keyed key t n (Ok p) = (is_field key t ≡ true) × FieldAt t n p.0 p.1.now
-Keyed key t n (Err e) = (is_field key t ≡ false) × (e ≡ WrongKey n)
+abbrev pub Keyed : List ℕ → Lines → Result (Field × Lines) TextFault → Type 0
+Keyed key t (Ok p) = (is_field key t.text.now ≡ true) × FieldAt t p.0 p.1
+Keyed key t (Err e) = (is_field key t.text.now ≡ false) × (e ≡ WrongKey t.line)

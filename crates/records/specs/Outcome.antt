@@ -1,6 +1,6 @@
 -- What the reader answers at the text that is left, whose first line has the number n.
-use Rattle.std.specs.Prelude.{◌≡◌, ℕ, ◌+◌, true, cond, List, [], ◌∷◌, map, length, take, ℤ, Some, None, Ok, Err, codes, Option, Result}
-use Rattle.std.specs.Borrow.{Bor}
+use Rattle.std.specs.Prelude.{◌≡◌, ℕ, ◌+◌, true, cond, List, [], ◌∷◌, map, length, ℤ, Some, None, Ok, Err, codes, Option, Result}
+use Rattle.arrayvec.specs.ArrayVec.{ArrayVec}
 use Rattle.ledger.specs.Grounds.{demand, ask}
 use Rattle.records.specs.Text.{after}
 use Rattle.records.specs.Numbers.{reading, proper}
@@ -11,6 +11,7 @@ use Rattle.records.specs.declared.fault.TextFault.{TextFault}
 use Rattle.records.specs.declared.fault.TextFault.TheVariants.{WrongKey, UnknownKind, MalformedValue}
 use Rattle.records.specs.declared.field.Field.{Field}
 use Rattle.records.specs.declared.kind.Kind.{Kind}
+use Rattle.records.specs.declared.lines.Lines.{Lines}
 use Rattle.records.specs.declared.kind.Record.{Record}
 
 -- of lines for these keys, the first that is missing or lacks its key
@@ -71,22 +72,22 @@ abbrev pub next_of : List ℕ → ℕ → Result (Option Taken) TextFault
 next_of [] n = Ok None
 next_of (c ∷ t) n = some (outcome (c ∷ t) n)
 
--- what the parts of the reader answer
-abbrev pub Kinded : List ℕ → ℕ → Result (Kind × Bor (List ℕ)) TextFault → Type 0
-Kinded t n (Ok p) = (is_field (codes "kind") t ≡ true) × (kind_by (value_in t) ≡ Some p.0) × (p.1.now ≡ after 10 t)
-Kinded t n (Err e) = outcome t n ≡ Err e
+-- what the parts of the reader answer at the lines that are left, and the lines after what they read
+abbrev pub Kinded : Lines → Result (Kind × Lines) TextFault → Type 0
+Kinded t (Ok p) = (is_field (codes "kind") t.text.now ≡ true) × (kind_by (value_in t.text.now) ≡ Some p.0) × (p.1.text.now ≡ after 10 t.text.now) × (p.1.line ≡ t.line + 1)
+Kinded t (Err e) = outcome t.text.now t.line ≡ Err e
 
 abbrev pub sights : List Field → List (ℕ × List ℕ)
 sights fs = map seen fs
 
-abbrev pub Fields : List (List ℕ) → List ℕ → ℕ → List Field → Result (Bor (List ℕ)) TextFault → Type 0
-Fields ks t n out (Ok left) = (bad_key ks t n ≡ None) × (sights (take (length ks) out) ≡ values ks t n) × (left.now ≡ past ks t)
-Fields ks t n out (Err e) = (m : ℕ) × (bad_key ks t n ≡ Some m) × (e ≡ WrongKey m)
+abbrev pub Fields : List (List ℕ) → Lines → Result (ArrayVec Field × Lines) TextFault → Type 0
+Fields ks t (Ok p) = (bad_key ks t.text.now t.line ≡ None) × (sights p.0.items ≡ values ks t.text.now t.line) × (p.1.text.now ≡ past ks t.text.now) × (p.1.line ≡ t.line + length ks)
+Fields ks t (Err e) = (m : ℕ) × (bad_key ks t.text.now t.line ≡ Some m) × (e ≡ WrongKey m)
 
-abbrev pub Numbers : List (ℕ × List ℕ) → List ℤ → Result (Unit {0}) TextFault → Type 0
-Numbers vs out (Ok x) = (bad_value vs ≡ None) × (take (length vs) out ≡ map amount vs)
-Numbers vs out (Err e) = (m : ℕ) × (bad_value vs ≡ Some m) × (e ≡ MalformedValue m)
+abbrev pub Numbers : List (ℕ × List ℕ) → Result (ArrayVec ℤ) TextFault → Type 0
+Numbers vs (Ok found) = (bad_value vs ≡ None) × (found.items ≡ map amount vs)
+Numbers vs (Err e) = (m : ℕ) × (bad_value vs ≡ Some m) × (e ≡ MalformedValue m)
 
-abbrev pub Body : Kind → List ℕ → ℕ → Result (Record × Bor (List ℕ)) TextFault → Type 0
-Body k t n (Ok p) = (read_as k t n ≡ Ok p.0) × (p.1.now ≡ past (keys k) t)
-Body k t n (Err e) = read_as k t n ≡ Err e
+abbrev pub Body : Kind → Lines → Result (Record × Lines) TextFault → Type 0
+Body k t (Ok p) = (read_as k t.text.now t.line ≡ Ok p.0) × (p.1.text.now ≡ past (keys k) t.text.now) × (p.1.line ≡ t.line + length (keys k))
+Body k t (Err e) = read_as k t.text.now t.line ≡ Err e

@@ -5,7 +5,7 @@ ghost use Rattle.records.specs.Faults.{number_of_fault, line_of_fault, layer_of_
 use ledger::Layer;
 
 /// A text's refusal, with the line that is bad or missing, counted from 1 over the whole text.
-#[derive(Clone, Copy)]
+#[derive(Clone, Copy, Debug, PartialEq, Eq)]
 pub enum TextFault {
     /// The line has the wrong key or no equals sign, or the text ends before it.
     WrongKey { line: usize },
@@ -32,9 +32,9 @@ impl TextFault {
         ensures { result ≡ line_of_fault self }
     {
         match self {
-            TextFault::WrongKey { line } => line,
-            TextFault::UnknownKind { line } => line,
-            TextFault::MalformedValue { line } => line,
+            TextFault::WrongKey { line }
+            | TextFault::UnknownKind { line }
+            | TextFault::MalformedValue { line } => line,
         }
     }
 
@@ -43,9 +43,9 @@ impl TextFault {
         ensures { result ≡ layer_of_fault self }
     {
         match self {
-            TextFault::WrongKey { .. } => Layer::Text,
-            TextFault::UnknownKind { .. } => Layer::Text,
-            TextFault::MalformedValue { .. } => Layer::Text,
+            TextFault::WrongKey { .. }
+            | TextFault::UnknownKind { .. }
+            | TextFault::MalformedValue { .. } => Layer::Text,
         }
     }
 }

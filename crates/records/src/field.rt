@@ -1,13 +1,11 @@
 //! A line of a record, split into its key and its value.
-ghost use Rattle.std.specs.Prelude.{◌≡◌};
+ghost use Rattle.std.specs.Prelude.{◌==◌, ◌≡◌, position};
 ghost use Rattle.std.specs.Str.{bytes_eq};
 ghost use Rattle.records.specs.Text.{Split};
-ghost use Rattle.records.specs.Lines.{Keyed, Parted, key_of, seen};
-
-use crate::fault::TextFault;
+ghost use Rattle.records.specs.Lines.{key_of, seen};
 
 /// A line's number, and the parts of the text before and after its first equals sign.
-#[derive(Clone, Copy)]
+#[derive(Clone, Copy, Debug, PartialEq, Eq)]
 pub enum Field<'t> {
     /// The line whose key is `kind`.
     Kind {
@@ -22,14 +20,23 @@ pub enum Field<'t> {
     },
 }
 
+impl<'t> Default for Field<'t> {
+    /// What a list of lines holds in the places that no line takes.
+    fn default() -> Field<'t> {
+        Field::Kind {
+            line: 0,
+            value: &[],
+        }
+    }
+}
+
 impl<'t> Field<'t> {
     /// The number of the line.
     pub(crate) fn line(self) -> usize
         ensures { result ≡ (seen self.entry).0 }
     {
         match self {
-            Field::Kind { line, .. } => line,
-            Field::Number { line, .. } => line,
+            Field::Kind { line, .. } | Field::Number { line, .. } => line,
         }
     }
 
@@ -38,13 +45,12 @@ impl<'t> Field<'t> {
         ensures { result.now ≡ (seen self.entry).1 }
     {
         match self {
-            Field::Kind { value, .. } => value,
-            Field::Number { value, .. } => value,
+            Field::Kind { value, .. } | Field::Number { value, .. } => value,
         }
     }
 
     /// Whether the key is `wanted`.
-    fn has_key(self, wanted: &[u8]) -> bool
+    pub(crate) fn has_key(self, wanted: &[u8]) -> bool
         ensures { result ≡ bytes_eq (key_of self.entry) wanted.now }
     {
         match self {
@@ -54,45 +60,17 @@ impl<'t> Field<'t> {
     }
 }
 
+/// The place of the first byte `b`.
+fn place_of(text: &[u8], b: u8) -> Option<usize>
+    ensures { result ≡ position (λ x. x == b) text.now }
+{
+    text.iter().position(|x| *x == b)
+}
+
 /// What stands before and after the first byte `b`.
-fn split(text: &[u8], b: u8) -> Option<(&[u8], &[u8])>
+pub(crate) fn split(text: &[u8], b: u8) -> Option<(&[u8], &[u8])>
     ensures { Split b text.now result }
 {
-    for (i, x) in text.iter().enumerate() {
-        if *x == b {
-            return Some((&text[..i], &text[i + 1..]));
-        }
-    }
-    None
-}
-
-/// The first line of a text, whose number is `line`, and what follows it.
-pub(crate) fn first_field(text: &[u8], line: usize) -> Result<(Field<'_>, &[u8]), TextFault>
-    ensures { Parted text.now line result }
-{
-    let Some((first, rest)) = split(text, b'\n') else {
-        return Err(TextFault::WrongKey { line });
-    };
-    let Some((key, value)) = split(first, b'=') else {
-        return Err(TextFault::WrongKey { line });
-    };
-    if key == b"kind".as_slice() {
-        return Ok((Field::Kind { line, value }, rest));
-    }
-    Ok((Field::Number { line, key, value }, rest))
-}
-
-/// The same, where the line has to have the key `wanted`.
-pub(crate) fn keyed_field<'t>(
-    text: &'t [u8],
-    wanted: &[u8],
-    line: usize,
-) -> Result<(Field<'t>, &'t [u8]), TextFault>
-    ensures { Keyed wanted.now text.now line result }
-{
-    let (field, rest) = first_field(text, line)?;
-    if field.has_key(wanted) {
-        return Ok((field, rest));
-    }
-    Err(TextFault::WrongKey { line })
+    let i = place_of(text, b)?;
+    Some((&text[..i], &text[i + 1..]))
 }

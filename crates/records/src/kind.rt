@@ -1,10 +1,10 @@
 //! The kinds of records: their letters, their keys and their fields.
-ghost use Rattle.std.specs.Prelude.{◌≡◌, ◌≤◌, length};
-ghost use Rattle.records.specs.Format.{keys, kind_by, made_of};
+ghost use Rattle.std.specs.Prelude.{◌≡◌, ◌≤◌, length, take};
+ghost use Rattle.records.specs.Format.{Letter, keys, made_of};
 ghost use Rattle.records.specs.Lines.{texts};
 
 /// What a record is, as its first line says by a letter.
-#[derive(Clone, Copy)]
+#[derive(Clone, Copy, Debug, PartialEq, Eq)]
 pub enum Kind {
     Book,
     Point,
@@ -21,8 +21,12 @@ pub enum Kind {
     CloseMonth,
 }
 
+/// A value that is not the letter of any kind.
+#[derive(Clone, Copy, Debug, PartialEq, Eq)]
+pub struct UnknownKind;
+
 /// A record, with its numbers as the text has them.
-#[derive(Clone, Copy)]
+#[derive(Clone, Copy, Debug, PartialEq, Eq)]
 pub enum Record {
     /// A new book.
     Book {
@@ -103,32 +107,39 @@ pub enum Record {
     CloseMonth,
 }
 
-impl Kind {
-    /// The kind that a value stands for, if it is one of the letters.
-    pub fn of(value: &[u8]) -> Option<Kind>
-        ensures { result ≡ kind_by value.now }
-    {
+/// The most keys that a kind has.
+pub(crate) const MOST_KEYS: usize = 7;
+
+impl TryFrom<&[u8]> for Kind {
+    type Error = UnknownKind;
+
+    ghost try_from_gives = { Letter };
+
+    fn try_from(value: &[u8]) -> Result<Kind, UnknownKind> {
+        // The pattern of one byte is no Option that `ok_or` could take.
         let [letter] = value else {
-            return None;
+            return Err(UnknownKind);
         };
         match char::from(*letter) {
-            'B' => Some(Kind::Book),
-            'P' => Some(Kind::Point),
-            'G' => Some(Kind::Start),
-            'E' => Some(Kind::EntryMeasurement),
-            'Z' => Some(Kind::ZoneMeasurement),
-            'W' => Some(Kind::Weather),
-            'A' => Some(Kind::Profile),
-            'S' => Some(Kind::Statement),
-            'Q' => Some(Kind::DailyQuantity),
-            'T' => Some(Kind::Trade),
-            'C' => Some(Kind::CloseDay),
-            'R' => Some(Kind::Reading),
-            'M' => Some(Kind::CloseMonth),
-            _ => None,
+            'B' => Ok(Kind::Book),
+            'P' => Ok(Kind::Point),
+            'G' => Ok(Kind::Start),
+            'E' => Ok(Kind::EntryMeasurement),
+            'Z' => Ok(Kind::ZoneMeasurement),
+            'W' => Ok(Kind::Weather),
+            'A' => Ok(Kind::Profile),
+            'S' => Ok(Kind::Statement),
+            'Q' => Ok(Kind::DailyQuantity),
+            'T' => Ok(Kind::Trade),
+            'C' => Ok(Kind::CloseDay),
+            'R' => Ok(Kind::Reading),
+            'M' => Ok(Kind::CloseMonth),
+            _ => Err(UnknownKind),
         }
     }
+}
 
+impl Kind {
     /// The keys of the kind's lines after the first, in order.
     pub fn keys(self) -> &'static [&'static [u8]]
         ensures names { texts result.now ≡ keys self }
@@ -155,157 +166,159 @@ impl Kind {
     }
 }
 
+/// The first `N` of these numbers.
+fn first<const N: usize>(numbers: &[i64]) -> [i64; N]
+    requires { N ≤ length numbers.now }
+    ensures { result ≡ take N numbers.now }
+{
+    let mut taken = [0; N];
+    taken.copy_from_slice(&numbers[..N]);
+    taken
+}
+
 impl Record {
     /// The record of a kind with these numbers, in the order of its keys.
+    // Each case is built by a function of its own, since one match of all would be too long for a function.
     pub(crate) fn of(kind: Kind, n: &[i64]) -> Record
         requires { length (keys kind) ≤ length n.now }
         ensures { result ≡ made_of kind n.now }
     {
         match kind {
-            Kind::Book => Record::book(n),
-            Kind::Point => Record::point(n),
+            Kind::Book => Record::book(first(n)),
+            Kind::Point => Record::point(first(n)),
             Kind::Start => Record::Start,
-            Kind::EntryMeasurement => Record::entry_measurement(n),
-            Kind::ZoneMeasurement => Record::zone_measurement(n),
-            Kind::Weather => Record::weather(n),
-            Kind::Profile => Record::profile(n),
-            Kind::Statement => Record::statement(n),
-            Kind::DailyQuantity => Record::daily_quantity(n),
-            Kind::Trade => Record::trade(n),
+            Kind::EntryMeasurement => Record::entry_measurement(first(n)),
+            Kind::ZoneMeasurement => Record::zone_measurement(first(n)),
+            Kind::Weather => Record::weather(first(n)),
+            Kind::Profile => Record::profile(first(n)),
+            Kind::Statement => Record::statement(first(n)),
+            Kind::DailyQuantity => Record::daily_quantity(first(n)),
+            Kind::Trade => Record::trade(first(n)),
             Kind::CloseDay => Record::CloseDay,
-            Kind::Reading => Record::reading(n),
+            Kind::Reading => Record::reading(first(n)),
             Kind::CloseMonth => Record::CloseMonth,
         }
     }
 
     /// A new book with these numbers.
-    fn book(n: &[i64]) -> Record
-        requires { 6 ≤ length n.now }
-        ensures { result ≡ made_of Kind.Book n.now }
+    fn book(n: [i64; 6]) -> Record
+        ensures { result ≡ made_of Kind.Book n }
     {
+        let [year, month, days, users, entries, zones] = n;
         Record::Book {
-            year: n[0],
-            month: n[1],
-            days: n[2],
-            users: n[3],
-            entries: n[4],
-            zones: n[5],
+            year,
+            month,
+            days,
+            users,
+            entries,
+            zones,
         }
     }
 
     /// A point with these numbers.
-    fn point(n: &[i64]) -> Record
-        requires { 7 ≤ length n.now }
-        ensures { result ≡ made_of Kind.Point n.now }
+    fn point(n: [i64; 7]) -> Record
+        ensures { result ≡ made_of Kind.Point n }
     {
+        let [zone, user, class, read, band, aq, index] = n;
         Record::Point {
-            zone: n[0],
-            user: n[1],
-            class: n[2],
-            read: n[3],
-            band: n[4],
-            aq: n[5],
-            index: n[6],
+            zone,
+            user,
+            class,
+            read,
+            band,
+            aq,
+            index,
         }
     }
 
     /// An entry point measurement with these numbers.
-    fn entry_measurement(n: &[i64]) -> Record
-        requires { 3 ≤ length n.now }
-        ensures { result ≡ made_of Kind.EntryMeasurement n.now }
+    fn entry_measurement(n: [i64; 3]) -> Record
+        ensures { result ≡ made_of Kind.EntryMeasurement n }
     {
+        let [day, entry, quantity] = n;
         Record::EntryMeasurement {
-            day: n[0],
-            entry: n[1],
-            quantity: n[2],
+            day,
+            entry,
+            quantity,
         }
     }
 
     /// A zone measurement with these numbers.
-    fn zone_measurement(n: &[i64]) -> Record
-        requires { 3 ≤ length n.now }
-        ensures { result ≡ made_of Kind.ZoneMeasurement n.now }
+    fn zone_measurement(n: [i64; 3]) -> Record
+        ensures { result ≡ made_of Kind.ZoneMeasurement n }
     {
+        let [day, zone, quantity] = n;
         Record::ZoneMeasurement {
-            day: n[0],
-            zone: n[1],
-            quantity: n[2],
+            day,
+            zone,
+            quantity,
         }
     }
 
     /// The weather of a zone with these numbers.
-    fn weather(n: &[i64]) -> Record
-        requires { 4 ≤ length n.now }
-        ensures { result ≡ made_of Kind.Weather n.now }
+    fn weather(n: [i64; 4]) -> Record
+        ensures { result ≡ made_of Kind.Weather n }
     {
-        Record::Weather {
-            day: n[0],
-            zone: n[1],
-            cv: n[2],
-            wcf: n[3],
-        }
+        let [day, zone, cv, wcf] = n;
+        Record::Weather { day, zone, cv, wcf }
     }
 
     /// The profile of a band with these numbers.
-    fn profile(n: &[i64]) -> Record
-        requires { 4 ≤ length n.now }
-        ensures { result ≡ made_of Kind.Profile n.now }
+    fn profile(n: [i64; 4]) -> Record
+        ensures { result ≡ made_of Kind.Profile n }
     {
+        let [day, band, alp, daf] = n;
         Record::Profile {
-            day: n[0],
-            band: n[1],
-            alp: n[2],
-            daf: n[3],
+            day,
+            band,
+            alp,
+            daf,
         }
     }
 
     /// A statement with these numbers.
-    fn statement(n: &[i64]) -> Record
-        requires { 4 ≤ length n.now }
-        ensures { result ≡ made_of Kind.Statement n.now }
+    fn statement(n: [i64; 4]) -> Record
+        ensures { result ≡ made_of Kind.Statement n }
     {
+        let [day, entry, user, quantity] = n;
         Record::Statement {
-            day: n[0],
-            entry: n[1],
-            user: n[2],
-            quantity: n[3],
+            day,
+            entry,
+            user,
+            quantity,
         }
     }
 
     /// A daily quantity with these numbers.
-    fn daily_quantity(n: &[i64]) -> Record
-        requires { 3 ≤ length n.now }
-        ensures { result ≡ made_of Kind.DailyQuantity n.now }
+    fn daily_quantity(n: [i64; 3]) -> Record
+        ensures { result ≡ made_of Kind.DailyQuantity n }
     {
+        let [day, point, quantity] = n;
         Record::DailyQuantity {
-            day: n[0],
-            point: n[1],
-            quantity: n[2],
+            day,
+            point,
+            quantity,
         }
     }
 
     /// A trade with these numbers.
-    fn trade(n: &[i64]) -> Record
-        requires { 4 ≤ length n.now }
-        ensures { result ≡ made_of Kind.Trade n.now }
+    fn trade(n: [i64; 4]) -> Record
+        ensures { result ≡ made_of Kind.Trade n }
     {
+        let [day, seller, buyer, quantity] = n;
         Record::Trade {
-            day: n[0],
-            seller: n[1],
-            buyer: n[2],
-            quantity: n[3],
+            day,
+            seller,
+            buyer,
+            quantity,
         }
     }
 
     /// A reading with these numbers.
-    fn reading(n: &[i64]) -> Record
-        requires { 3 ≤ length n.now }
-        ensures { result ≡ made_of Kind.Reading n.now }
+    fn reading(n: [i64; 3]) -> Record
+        ensures { result ≡ made_of Kind.Reading n }
     {
-        Record::Reading {
-            point: n[0],
-            day: n[1],
-            index: n[2],
-        }
+        let [point, day, index] = n;
+        Record::Reading { point, day, index }
     }
 }

@@ -8,6 +8,7 @@ mod body;
 mod fault;
 mod field;
 mod kind;
+mod lines;
 mod numeral;
 mod reader;
 #[cfg(test)]
@@ -15,7 +16,7 @@ mod tests;
 
 pub use body::Taken;
 pub use fault::TextFault;
-pub use kind::{Kind, Record};
+pub use kind::{Kind, Record, UnknownKind};
 pub use reader::Reader;
 
 /// Two records never have the same text, and none's text is the front of another's.

@@ -6,18 +6,15 @@ ghost use Rattle.records.specs.Numbers.{Exact, Natural, number_of};
 fn natural(digits: &[u8]) -> Option<u64>
     ensures { Natural digits.now result }
 {
-    if digits.len() == 0 || digits.len() > 11 {
+    if digits.is_empty() || digits.len() > 11 {
         return None;
     }
-    if digits[0] == b'0' && digits.len() > 1 {
+    if let [b'0', _, ..] = digits {
         return None;
     }
     let mut n = 0;
     for d in digits {
-        if *d < b'0' || *d > b'9' {
-            return None;
-        }
-        n = n * 10 + u64::from(*d - b'0');
+        n = n * 10 + u64::from(char::from(*d).to_digit(10)?);
     }
     Some(n)
 }
@@ -27,17 +24,13 @@ pub(crate) fn number(value: &[u8]) -> Option<i64>
     ensures exact { Exact value.now result }
     ensures answer { result ≡ number_of value.now }
 {
-    if value.len() > 0 && value[0] == b'-' {
-        let Some(n) = natural(&value[1..]) else {
-            return None;
-        };
+    if let [b'-', digits @ ..] = value {
+        let n = natural(digits)?;
         if n == 0 {
             return None;
         }
         return Some(-(n as i64));
     }
-    let Some(n) = natural(value) else {
-        return None;
-    };
+    let n = natural(value)?;
     Some(n as i64)
 }

@@ -1,4 +1,1 @@
-pub mod Drafted
-pub mod Kept
-pub mod Ladders
 pub mod Long

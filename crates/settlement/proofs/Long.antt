@@ -1,23 +1,8 @@
 -- How long each table is, where none is short.
-use Rattle.std.proofs.Common.{◌≡◌, ◌*◌, ◌≤◌, true, length}
+use Rattle.std.proofs.Common.{◌≡◌, true}
 use Rattle.std.proofs.lemmas.Bool.{and_parts, leb-true}
-use Rattle.settlement.specs.Limits.{most_bands, most_points}
-use Rattle.settlement.specs.Shape.{shaped}
+use Rattle.settlement.specs.Shape.{Long, shaped}
 use Rattle.settlement.specs.State.{Lists, Sizes}
-
-pub record Long (z : Sizes) (t : Lists) : Type 0 where
-  pub points : most_points ≤ length t.points
-  pub entry_measurements : z.days * z.entries ≤ length t.entry_measurements
-  pub zone_measurements : z.days * z.zones ≤ length t.zone_measurements
-  pub weather : z.days * z.zones ≤ length t.weather
-  pub profiles : z.days * most_bands ≤ length t.profiles
-  pub inputs : z.days * z.entries * z.users ≤ length t.inputs
-  pub outputs : z.days * most_points ≤ length t.outputs
-  pub prevailing : most_points * z.days ≤ length t.prevailing
-  pub zone_figures : z.days * z.zones * z.users ≤ length t.zone_figures
-  pub balances : z.days * z.users ≤ length t.balances
-  pub reconciliations : z.zones * z.users ≤ length t.reconciliations
-  pub months : z.months * z.zones * z.users ≤ length t.months
 
 pub long : (z : Sizes) (t : Lists) → shaped z t ≡ true → Long z t
 unfolding shaped
@@ -34,6 +19,7 @@ long z t h =
     let j = and_parts _ _ i.1 in
     let k = and_parts _ _ j.1 in
     record {
+      none_short = h;
       points = leb-true _ _ a.0;
       entry_measurements = leb-true _ _ b.0;
       zone_measurements = leb-true _ _ c.0;

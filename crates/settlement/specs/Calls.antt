@@ -16,59 +16,59 @@ use Rattle.settlement.specs.declared.tables.Tables.{Tables}
 abbrev pub verdict_live : Sizes → State → Call → Result (Unit {0}) Fault
 verdict_live z s (call.Point p) = Err fault.NotTakenNow
 verdict_live z s call.Start = Err fault.NotTakenNow
-verdict_live z s (call.MeasureEntry day entry quantity) = told (entry_measurement_ground z s day entry quantity)
-verdict_live z s (call.MeasureZone day zone quantity) = told (zone_measurement_ground z s day zone quantity)
-verdict_live z s (call.Weather day zone cv wcf) = told (weather_ground z s day zone cv wcf)
-verdict_live z s (call.Profile day band alp daf) = told (profile_ground z s day band alp daf)
-verdict_live z s (call.Statement day entry user quantity) = told (statement_ground z s day entry user quantity)
-verdict_live z s (call.DailyQuantity day point quantity) = told (daily_ground z s day point quantity)
-verdict_live z s (call.Trade day seller buyer quantity) = told (trade_ground z s day seller buyer quantity)
+verdict_live z s (call.MeasureEntry m) = told (entry_measurement_ground z s m)
+verdict_live z s (call.MeasureZone m) = told (zone_measurement_ground z s m)
+verdict_live z s (call.Weather m) = told (weather_ground z s m)
+verdict_live z s (call.Profile m) = told (profile_ground z s m)
+verdict_live z s (call.Statement m) = told (statement_ground z s m)
+verdict_live z s (call.DailyQuantity m) = told (daily_ground z s m)
+verdict_live z s (call.Trade m) = told (trade_ground z s m)
 
 abbrev pub left_live : Sizes → State → Call → State
 left_live z s (call.Point p) = s
 left_live z s call.Start = s
-left_live z s (call.MeasureEntry day entry quantity) = entry_measurement_after z s day entry quantity
-left_live z s (call.MeasureZone day zone quantity) = zone_measurement_after z s day zone quantity
-left_live z s (call.Weather day zone cv wcf) = weather_after z s day zone cv wcf
-left_live z s (call.Profile day band alp daf) = profile_after z s day band alp daf
-left_live z s (call.Statement day entry user quantity) = statement_after z s day entry user quantity
-left_live z s (call.DailyQuantity day point quantity) = daily_after z s day point quantity
-left_live z s (call.Trade day seller buyer quantity) = trade_after z s day seller buyer quantity
+left_live z s (call.MeasureEntry m) = entry_measurement_after z s m
+left_live z s (call.MeasureZone m) = zone_measurement_after z s m
+left_live z s (call.Weather m) = weather_after z s m
+left_live z s (call.Profile m) = profile_after z s m
+left_live z s (call.Statement m) = statement_after z s m
+left_live z s (call.DailyQuantity m) = daily_after z s m
+left_live z s (call.Trade m) = trade_after z s m
 
 -- ---- a draft takes points and a start
 abbrev pub verdict_draft : Sizes → State → Call → Result (Unit {0}) Fault
 verdict_draft z s (call.Point p) = told (point_ground z s p)
 verdict_draft z s call.Start = start_ground z s
-verdict_draft z s (call.MeasureEntry day entry quantity) = Err fault.NotTakenNow
-verdict_draft z s (call.MeasureZone day zone quantity) = Err fault.NotTakenNow
-verdict_draft z s (call.Weather day zone cv wcf) = Err fault.NotTakenNow
-verdict_draft z s (call.Profile day band alp daf) = Err fault.NotTakenNow
-verdict_draft z s (call.Statement day entry user quantity) = Err fault.NotTakenNow
-verdict_draft z s (call.DailyQuantity day point quantity) = Err fault.NotTakenNow
-verdict_draft z s (call.Trade day seller buyer quantity) = Err fault.NotTakenNow
+verdict_draft z s (call.MeasureEntry m) = Err fault.NotTakenNow
+verdict_draft z s (call.MeasureZone m) = Err fault.NotTakenNow
+verdict_draft z s (call.Weather m) = Err fault.NotTakenNow
+verdict_draft z s (call.Profile m) = Err fault.NotTakenNow
+verdict_draft z s (call.Statement m) = Err fault.NotTakenNow
+verdict_draft z s (call.DailyQuantity m) = Err fault.NotTakenNow
+verdict_draft z s (call.Trade m) = Err fault.NotTakenNow
 
 abbrev pub left_draft : Sizes → State → Call → State
 left_draft z s (call.Point p) = point_after z s p
 left_draft z s call.Start = s
-left_draft z s (call.MeasureEntry day entry quantity) = s
-left_draft z s (call.MeasureZone day zone quantity) = s
-left_draft z s (call.Weather day zone cv wcf) = s
-left_draft z s (call.Profile day band alp daf) = s
-left_draft z s (call.Statement day entry user quantity) = s
-left_draft z s (call.DailyQuantity day point quantity) = s
-left_draft z s (call.Trade day seller buyer quantity) = s
+left_draft z s (call.MeasureEntry m) = s
+left_draft z s (call.MeasureZone m) = s
+left_draft z s (call.Weather m) = s
+left_draft z s (call.Profile m) = s
+left_draft z s (call.Statement m) = s
+left_draft z s (call.DailyQuantity m) = s
+left_draft z s (call.Trade m) = s
 
 -- whether a call starts the draft
 abbrev pub starts : Sizes → State → Call → Bool
 starts z s call.Start = on_ok (start_ground z s) (λ _. true) false
 starts z s (call.Point p) = false
-starts z s (call.MeasureEntry day entry quantity) = false
-starts z s (call.MeasureZone day zone quantity) = false
-starts z s (call.Weather day zone cv wcf) = false
-starts z s (call.Profile day band alp daf) = false
-starts z s (call.Statement day entry user quantity) = false
-starts z s (call.DailyQuantity day point quantity) = false
-starts z s (call.Trade day seller buyer quantity) = false
+starts z s (call.MeasureEntry m) = false
+starts z s (call.MeasureZone m) = false
+starts z s (call.Weather m) = false
+starts z s (call.Profile m) = false
+starts z s (call.Statement m) = false
+starts z s (call.DailyQuantity m) = false
+starts z s (call.Trade m) = false
 
 -- ---- a book in either phase, with its tables
 pub record Whole : Type 0 where

@@ -9,12 +9,12 @@ use Rattle.settlement.specs.Shape.{shaped}
 use Rattle.settlement.specs.State.{Lists, Sizes, State, emptied, sizes, with_point_count, with_points, with_tables}
 use Rattle.settlement.specs.declared.counts.Counts.{Counts}
 use Rattle.settlement.specs.declared.draft.Draft.{Draft}
-use Rattle.settlement.specs.declared.drafting.BookTerms.{BookTerms}
-use Rattle.settlement.specs.declared.drafting.PointTerms.{PointTerms}
 use Rattle.settlement.specs.declared.fault.Fault.{Fault}
 use Rattle.settlement.specs.declared.fault.Fault.TheVariants as fault
 use Rattle.settlement.specs.declared.live.Live.{Live}
 use Rattle.settlement.specs.declared.rows.Point.{Point}
+use Rattle.settlement.specs.declared.terms.BookTerms.{BookTerms}
+use Rattle.settlement.specs.declared.terms.PointTerms.{PointTerms}
 
 -- what comes next, where nothing was refused yet
 abbrev pub next : {X Y : Type 0} → Result X Fault → (X → Result Y Fault) → Result Y Fault

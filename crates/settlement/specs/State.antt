@@ -65,55 +65,55 @@ held v t = record { points = v.points; closed = v.closed; closed_months = v.clos
 
 -- ---- one thing changed, and all else as it was
 abbrev pub with_tables : State → Lists → State
-with_tables s t = record { points = s.points; closed = s.closed; closed_months = s.closed_months; slips = s.slips; tables = t }
+with_tables s t = record s { tables = t }
 
 abbrev pub with_point_count : State → ℕ → State
-with_point_count s n = record { points = n; closed = s.closed; closed_months = s.closed_months; slips = s.slips; tables = s.tables }
+with_point_count s n = record s { points = n }
 
 abbrev pub with_points : Lists → List (Option Point) → Lists
-with_points t xs = record { points = xs; entry_measurements = t.entry_measurements; zone_measurements = t.zone_measurements; weather = t.weather; profiles = t.profiles; inputs = t.inputs; outputs = t.outputs; prevailing = t.prevailing; zone_figures = t.zone_figures; balances = t.balances; reconciliations = t.reconciliations; months = t.months; statements = t.statements; daily_quantities = t.daily_quantities; trades = t.trades }
+with_points t xs = record t { points = xs }
 
 abbrev pub with_entry_measurements : Lists → List (Option ℕ) → Lists
-with_entry_measurements t xs = record { points = t.points; entry_measurements = xs; zone_measurements = t.zone_measurements; weather = t.weather; profiles = t.profiles; inputs = t.inputs; outputs = t.outputs; prevailing = t.prevailing; zone_figures = t.zone_figures; balances = t.balances; reconciliations = t.reconciliations; months = t.months; statements = t.statements; daily_quantities = t.daily_quantities; trades = t.trades }
+with_entry_measurements t xs = record t { entry_measurements = xs }
 
 abbrev pub with_zone_measurements : Lists → List (Option ℕ) → Lists
-with_zone_measurements t xs = record { points = t.points; entry_measurements = t.entry_measurements; zone_measurements = xs; weather = t.weather; profiles = t.profiles; inputs = t.inputs; outputs = t.outputs; prevailing = t.prevailing; zone_figures = t.zone_figures; balances = t.balances; reconciliations = t.reconciliations; months = t.months; statements = t.statements; daily_quantities = t.daily_quantities; trades = t.trades }
+with_zone_measurements t xs = record t { zone_measurements = xs }
 
 abbrev pub with_weather : Lists → List (Option Weather) → Lists
-with_weather t xs = record { points = t.points; entry_measurements = t.entry_measurements; zone_measurements = t.zone_measurements; weather = xs; profiles = t.profiles; inputs = t.inputs; outputs = t.outputs; prevailing = t.prevailing; zone_figures = t.zone_figures; balances = t.balances; reconciliations = t.reconciliations; months = t.months; statements = t.statements; daily_quantities = t.daily_quantities; trades = t.trades }
+with_weather t xs = record t { weather = xs }
 
 abbrev pub with_profiles : Lists → List (Option Profile) → Lists
-with_profiles t xs = record { points = t.points; entry_measurements = t.entry_measurements; zone_measurements = t.zone_measurements; weather = t.weather; profiles = xs; inputs = t.inputs; outputs = t.outputs; prevailing = t.prevailing; zone_figures = t.zone_figures; balances = t.balances; reconciliations = t.reconciliations; months = t.months; statements = t.statements; daily_quantities = t.daily_quantities; trades = t.trades }
+with_profiles t xs = record t { profiles = xs }
 
 abbrev pub with_inputs : Lists → List ℕ → Lists
-with_inputs t xs = record { points = t.points; entry_measurements = t.entry_measurements; zone_measurements = t.zone_measurements; weather = t.weather; profiles = t.profiles; inputs = xs; outputs = t.outputs; prevailing = t.prevailing; zone_figures = t.zone_figures; balances = t.balances; reconciliations = t.reconciliations; months = t.months; statements = t.statements; daily_quantities = t.daily_quantities; trades = t.trades }
+with_inputs t xs = record t { inputs = xs }
 
 abbrev pub with_outputs : Lists → List ℕ → Lists
-with_outputs t xs = record { points = t.points; entry_measurements = t.entry_measurements; zone_measurements = t.zone_measurements; weather = t.weather; profiles = t.profiles; inputs = t.inputs; outputs = xs; prevailing = t.prevailing; zone_figures = t.zone_figures; balances = t.balances; reconciliations = t.reconciliations; months = t.months; statements = t.statements; daily_quantities = t.daily_quantities; trades = t.trades }
+with_outputs t xs = record t { outputs = xs }
 
 abbrev pub with_prevailing : Lists → List ℕ → Lists
-with_prevailing t xs = record { points = t.points; entry_measurements = t.entry_measurements; zone_measurements = t.zone_measurements; weather = t.weather; profiles = t.profiles; inputs = t.inputs; outputs = t.outputs; prevailing = xs; zone_figures = t.zone_figures; balances = t.balances; reconciliations = t.reconciliations; months = t.months; statements = t.statements; daily_quantities = t.daily_quantities; trades = t.trades }
+with_prevailing t xs = record t { prevailing = xs }
 
 abbrev pub with_zone_figures : Lists → List ZoneFigures → Lists
-with_zone_figures t xs = record { points = t.points; entry_measurements = t.entry_measurements; zone_measurements = t.zone_measurements; weather = t.weather; profiles = t.profiles; inputs = t.inputs; outputs = t.outputs; prevailing = t.prevailing; zone_figures = xs; balances = t.balances; reconciliations = t.reconciliations; months = t.months; statements = t.statements; daily_quantities = t.daily_quantities; trades = t.trades }
+with_zone_figures t xs = record t { zone_figures = xs }
 
 abbrev pub with_balances : Lists → List Balance → Lists
-with_balances t xs = record { points = t.points; entry_measurements = t.entry_measurements; zone_measurements = t.zone_measurements; weather = t.weather; profiles = t.profiles; inputs = t.inputs; outputs = t.outputs; prevailing = t.prevailing; zone_figures = t.zone_figures; balances = xs; reconciliations = t.reconciliations; months = t.months; statements = t.statements; daily_quantities = t.daily_quantities; trades = t.trades }
+with_balances t xs = record t { balances = xs }
 
 abbrev pub with_reconciliations : Lists → List ℤ → Lists
-with_reconciliations t xs = record { points = t.points; entry_measurements = t.entry_measurements; zone_measurements = t.zone_measurements; weather = t.weather; profiles = t.profiles; inputs = t.inputs; outputs = t.outputs; prevailing = t.prevailing; zone_figures = t.zone_figures; balances = t.balances; reconciliations = xs; months = t.months; statements = t.statements; daily_quantities = t.daily_quantities; trades = t.trades }
+with_reconciliations t xs = record t { reconciliations = xs }
 
 abbrev pub with_months : Lists → List MonthFigures → Lists
-with_months t xs = record { points = t.points; entry_measurements = t.entry_measurements; zone_measurements = t.zone_measurements; weather = t.weather; profiles = t.profiles; inputs = t.inputs; outputs = t.outputs; prevailing = t.prevailing; zone_figures = t.zone_figures; balances = t.balances; reconciliations = t.reconciliations; months = xs; statements = t.statements; daily_quantities = t.daily_quantities; trades = t.trades }
+with_months t xs = record t { months = xs }
 
 abbrev pub with_statements : Lists → List (Option Statement) → Lists
-with_statements t xs = record { points = t.points; entry_measurements = t.entry_measurements; zone_measurements = t.zone_measurements; weather = t.weather; profiles = t.profiles; inputs = t.inputs; outputs = t.outputs; prevailing = t.prevailing; zone_figures = t.zone_figures; balances = t.balances; reconciliations = t.reconciliations; months = t.months; statements = xs; daily_quantities = t.daily_quantities; trades = t.trades }
+with_statements t xs = record t { statements = xs }
 
 abbrev pub with_daily_quantities : Lists → List (Option DailyQuantity) → Lists
-with_daily_quantities t xs = record { points = t.points; entry_measurements = t.entry_measurements; zone_measurements = t.zone_measurements; weather = t.weather; profiles = t.profiles; inputs = t.inputs; outputs = t.outputs; prevailing = t.prevailing; zone_figures = t.zone_figures; balances = t.balances; reconciliations = t.reconciliations; months = t.months; statements = t.statements; daily_quantities = xs; trades = t.trades }
+with_daily_quantities t xs = record t { daily_quantities = xs }
 
 abbrev pub with_trades : Lists → List (Option Trade) → Lists
-with_trades t xs = record { points = t.points; entry_measurements = t.entry_measurements; zone_measurements = t.zone_measurements; weather = t.weather; profiles = t.profiles; inputs = t.inputs; outputs = t.outputs; prevailing = t.prevailing; zone_figures = t.zone_figures; balances = t.balances; reconciliations = t.reconciliations; months = t.months; statements = t.statements; daily_quantities = t.daily_quantities; trades = xs }
+with_trades t xs = record t { trades = xs }
 
 -- ---- empty tables and registers
 abbrev pub no_figures : ZoneFigures
@@ -133,7 +133,8 @@ emptied t = record { points = replicate (length t.points) None; entry_measuremen
 abbrev pub new_state : Lists → State
 new_state t = record { points = 0; closed = 0; closed_months = 0; slips = 0; tables = emptied t }
 
--- the same slices are lent still, so that their lender knows what they hold
+-- the same slices are lent still, so that their lender knows what they hold; it ties the slices before a call to those after it,
+-- which no invariant of one value can say
 pub record Lent (s t : Tables) : Type 0 where
   pub points : t.points.ghost_name ≡ s.points.ghost_name
   pub entry_measurements : t.entry_measurements.ghost_name ≡ s.entry_measurements.ghost_name

@@ -4,10 +4,13 @@ ghost use Rattle.settlement.specs.Calls.{left_by, left_live, rule_of, verdict, v
 ghost use Rattle.settlement.specs.State.{Lent, held, sizes};
 
 use crate::draft::Draft;
-use crate::drafting::PointTerms;
 use crate::fault::Fault;
 use crate::live::Live;
 use crate::tables::Tables;
+use crate::terms::{
+    DailyQuantityTerms, EntryMeasurementTerms, PointTerms, ProfileTerms, StatementTerms,
+    TradeTerms, WeatherTerms, ZoneMeasurementTerms,
+};
 use ledger::ShareRule;
 
 /// A draft, or a live book.
@@ -18,49 +21,17 @@ pub enum Book<R> {
 }
 
 /// Everything that a book takes.
-#[derive(Clone, Copy)]
+#[derive(Clone, Copy, Debug, PartialEq, Eq)]
 pub enum Call {
     Point(PointTerms),
     Start,
-    MeasureEntry {
-        day: i64,
-        entry: i64,
-        quantity: i64,
-    },
-    MeasureZone {
-        day: i64,
-        zone: i64,
-        quantity: i64,
-    },
-    Weather {
-        day: i64,
-        zone: i64,
-        cv: i64,
-        wcf: i64,
-    },
-    Profile {
-        day: i64,
-        band: i64,
-        alp: i64,
-        daf: i64,
-    },
-    Statement {
-        day: i64,
-        entry: i64,
-        user: i64,
-        quantity: i64,
-    },
-    DailyQuantity {
-        day: i64,
-        point: i64,
-        quantity: i64,
-    },
-    Trade {
-        day: i64,
-        seller: i64,
-        buyer: i64,
-        quantity: i64,
-    },
+    MeasureEntry(EntryMeasurementTerms),
+    MeasureZone(ZoneMeasurementTerms),
+    Weather(WeatherTerms),
+    Profile(ProfileTerms),
+    Statement(StatementTerms),
+    DailyQuantity(DailyQuantityTerms),
+    Trade(TradeTerms),
 }
 
 /// What a live book answers to a call.
@@ -71,44 +42,18 @@ fn carry_live<R>(live: &Live<R>, t: &mut Tables<'_>, call: Call) -> Result<(), F
 {
     match call {
         Call::Point(_) | Call::Start => Err(Fault::NotTakenNow),
-        Call::MeasureEntry {
-            day,
-            entry,
-            quantity,
-        } => live.measure_entry(t, day, entry, quantity),
-        Call::MeasureZone {
-            day,
-            zone,
-            quantity,
-        } => live.measure_zone(t, day, zone, quantity),
-        Call::Weather { day, zone, cv, wcf } => live.weather(t, day, zone, cv, wcf),
-        Call::Profile {
-            day,
-            band,
-            alp,
-            daf,
-        } => live.profile(t, day, band, alp, daf),
-        Call::Statement {
-            day,
-            entry,
-            user,
-            quantity,
-        } => live.statement(t, day, entry, user, quantity),
-        Call::DailyQuantity {
-            day,
-            point,
-            quantity,
-        } => live.daily_quantity(t, day, point, quantity),
-        Call::Trade {
-            day,
-            seller,
-            buyer,
-            quantity,
-        } => live.trade(t, day, seller, buyer, quantity),
+        Call::MeasureEntry(terms) => live.measure_entry(t, terms),
+        Call::MeasureZone(terms) => live.measure_zone(t, terms),
+        Call::Weather(terms) => live.weather(t, terms),
+        Call::Profile(terms) => live.profile(t, terms),
+        Call::Statement(terms) => live.statement(t, terms),
+        Call::DailyQuantity(terms) => live.daily_quantity(t, terms),
+        Call::Trade(terms) => live.trade(t, terms),
     }
 }
 
 /// What a draft becomes of a call, and answers to it.
+// The book stands beside the answer, since a start consumes the draft and makes a live book in its place.
 fn carry_draft<R: ShareRule + Drop>(
     draft: Draft<R>,
     t: &mut Tables<'_>,
@@ -135,6 +80,7 @@ fn carry_draft<R: ShareRule + Drop>(
 
 impl<R: ShareRule + Drop> Book<R> {
     /// Carries a call out, and gives the book back with the answer.
+    // The book is taken and given back, since a start consumes the draft and makes a live book in its place.
     pub fn carry_out(self, t: &mut Tables<'_>, call: Call) -> (Book<R>, Result<(), Fault>)
         ensures answer { result.1 ≡ verdict (whole self t.old) call }
         ensures after { whole result.0 t.new ≡ left_by (whole self t.old) call }

@@ -5,7 +5,7 @@ ghost use Rattle.ledger.specs.Calendar.{whole_months};
 use ledger::calendar::Calendar;
 
 /// How many Days, users, entry points and zones a book has, and when it begins.
-#[derive(Clone, Copy)]
+#[derive(Clone, Copy, Debug, PartialEq, Eq)]
 pub struct Counts {
     pub(crate) calendar: Calendar,
     pub(crate) days: u16,

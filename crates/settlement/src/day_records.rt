@@ -5,7 +5,7 @@ ghost use Rattle.std.proofs.Common.{rules};
 use ledger::register::Keyed;
 
 /// What a user states to have put in at an entry point.
-#[derive(Clone, Copy)]
+#[derive(Clone, Copy, Debug, PartialEq, Eq)]
 pub struct Statement {
     pub day: u16,
     pub entry: u16,
@@ -13,7 +13,7 @@ pub struct Statement {
     pub quantity: u64,
 }
 
-#[derive(Clone, Copy)]
+#[derive(Clone, Copy, Debug, PartialEq, Eq)]
 pub struct StatementKey {
     pub day: u16,
     pub entry: u16,
@@ -46,7 +46,7 @@ impl Keyed for Statement {
     }
 
     fn has_key(&self, key: StatementKey) -> bool {
-        self.day == key.day && self.entry == key.entry && self.user == key.user
+        self.key() == key
     }
 
     fn belongs(&self, group: u16) -> bool {
@@ -55,14 +55,14 @@ impl Keyed for Statement {
 }
 
 /// What a point of class 1 or 2 took.
-#[derive(Clone, Copy)]
+#[derive(Clone, Copy, Debug, PartialEq, Eq)]
 pub struct DailyQuantity {
     pub day: u16,
     pub point: u16,
     pub quantity: u64,
 }
 
-#[derive(Clone, Copy)]
+#[derive(Clone, Copy, Debug, PartialEq, Eq)]
 pub struct DailyQuantityKey {
     pub day: u16,
     pub point: u16,
@@ -93,7 +93,7 @@ impl Keyed for DailyQuantity {
     }
 
     fn has_key(&self, key: DailyQuantityKey) -> bool {
-        self.day == key.day && self.point == key.point
+        self.key() == key
     }
 
     fn belongs(&self, group: u16) -> bool {
@@ -102,7 +102,7 @@ impl Keyed for DailyQuantity {
 }
 
 /// What a user sold to another.
-#[derive(Clone, Copy)]
+#[derive(Clone, Copy, Debug, PartialEq, Eq)]
 pub struct Trade {
     pub day: u16,
     pub seller: u16,
@@ -110,7 +110,7 @@ pub struct Trade {
     pub quantity: u64,
 }
 
-#[derive(Clone, Copy)]
+#[derive(Clone, Copy, Debug, PartialEq, Eq)]
 pub struct TradeKey {
     pub day: u16,
     pub seller: u16,
@@ -143,7 +143,7 @@ impl Keyed for Trade {
     }
 
     fn has_key(&self, key: TradeKey) -> bool {
-        self.day == key.day && self.seller == key.seller && self.buyer == key.buyer
+        self.key() == key
     }
 
     fn belongs(&self, group: u16) -> bool {

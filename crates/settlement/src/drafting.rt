@@ -1,5 +1,5 @@
 //! New books, and what a draft takes: points, and its start.
-ghost use Rattle.std.specs.Prelude.{◌≡◌, length, replicate, IfOk};
+ghost use Rattle.std.specs.Prelude.{◌≡◌, ◌<◌, length, IfOk};
 ghost use Rattle.ledger.specs.Grounds.{told};
 ghost use Rattle.settlement.specs.Drafting.{Started, counted, counts_ground, drafted_sizes, new_after, new_ground, point_after, point_ground, point_of, start_ground};
 ghost use Rattle.settlement.specs.State.{Lent, drafted, emptied, lists, sizes};
@@ -9,69 +9,33 @@ use crate::draft::Draft;
 use crate::fault::Fault;
 use crate::live::Live;
 use crate::rows::{Balance, Class, MonthFigures, Point, ZoneFigures};
-use crate::shape::fits;
 use crate::tables::Tables;
+use crate::terms::{BookTerms, PointTerms};
 use ledger::ShareRule;
 use ledger::calendar::Calendar;
 use ledger::range::{number_in, quantity_in};
 
 const MAX_POINTS: u16 = 48;
 
-/// What a new book is to be.
-#[derive(Clone, Copy)]
-pub struct BookTerms {
-    pub year: i64,
-    pub month: i64,
-    pub days: i64,
-    pub users: i64,
-    pub entries: i64,
-    pub zones: i64,
-}
-
-/// What a new point is to be.
-#[derive(Clone, Copy)]
-pub struct PointTerms {
-    pub zone: i64,
-    pub user: i64,
-    pub class: i64,
-    pub least_days: i64,
-    pub band: i64,
-    pub aq: i64,
-    pub index: i64,
-}
-
 /// The counts, where they make a book.
-fn counts_of(b: BookTerms) -> Result<Counts, Fault>
-    ensures { counted result ≡ counts_ground b }
-{
-    let Some(calendar) = Calendar::new(b.year, b.month, b.days) else {
-        return Err(Fault::OutsideLimits);
-    };
-    let Some(users) = number_in(b.users, 1, 16) else {
-        return Err(Fault::OutsideLimits);
-    };
-    let Some(entries) = number_in(b.entries, 1, 8) else {
-        return Err(Fault::OutsideLimits);
-    };
-    let Some(zones) = number_in(b.zones, 1, 4) else {
-        return Err(Fault::OutsideLimits);
-    };
-    Ok(Counts {
-        calendar,
-        days: calendar.days(),
-        months: calendar.months(),
-        users,
-        entries,
-        zones,
-    })
-}
+impl TryFrom<BookTerms> for Counts {
+    type Error = Fault;
 
-/// Writes one value into every place.
-fn clear<T: Copy>(xs: &mut [T], empty: T)
-    ensures { xs.new ≡ replicate (length xs.old) empty }
-{
-    for x in xs.iter_mut() {
-        *x = empty;
+    ghost try_from_gives = { λ b r. counted r ≡ counts_ground b };
+
+    fn try_from(b: BookTerms) -> Result<Counts, Fault> {
+        let calendar = Calendar::new(b.year, b.month, b.days).ok_or(Fault::OutsideLimits)?;
+        let users = number_in(b.users, 1, 16).ok_or(Fault::OutsideLimits)?;
+        let entries = number_in(b.entries, 1, 8).ok_or(Fault::OutsideLimits)?;
+        let zones = number_in(b.zones, 1, 4).ok_or(Fault::OutsideLimits)?;
+        Ok(Counts {
+            calendar,
+            days: calendar.days(),
+            months: calendar.months(),
+            users,
+            entries,
+            zones,
+        })
     }
 }
 
@@ -80,64 +44,33 @@ fn empty(t: &mut Tables<'_>)
     ensures after { lists t.new ≡ emptied (lists t.old) }
     ensures lent { Lent t.old t.new }
 {
-    clear(t.points, None);
-    clear(t.entry_measurements, None);
-    clear(t.zone_measurements, None);
-    clear(t.weather, None);
-    clear(t.profiles, None);
-    clear(t.inputs, 0);
-    clear(t.outputs, 0);
-    clear(t.prevailing, 0);
-    clear(
-        t.zone_figures,
-        ZoneFigures {
-            output: 0,
-            adjusted: 0,
-            unidentified: 0,
-        },
-    );
-    clear(
-        t.balances,
-        Balance {
-            traded: 0,
-            imbalance: 0,
-        },
-    );
-    clear(t.reconciliations, 0);
-    clear(
-        t.months,
-        MonthFigures {
-            reconciled: 0,
-            returned: 0,
-        },
-    );
-    clear(t.statements, None);
-    clear(t.daily_quantities, None);
-    clear(t.trades, None);
+    t.points.fill(None);
+    t.entry_measurements.fill(None);
+    t.zone_measurements.fill(None);
+    t.weather.fill(None);
+    t.profiles.fill(None);
+    t.inputs.fill(0);
+    t.outputs.fill(0);
+    t.prevailing.fill(0);
+    t.zone_figures.fill(ZoneFigures::default());
+    t.balances.fill(Balance::default());
+    t.reconciliations.fill(0);
+    t.months.fill(MonthFigures::default());
+    t.statements.fill(None);
+    t.daily_quantities.fill(None);
+    t.trades.fill(None);
 }
 
 /// The point that the terms describe.
 fn point_of(z: Counts, p: PointTerms) -> Result<Point, Fault>
     ensures { result ≡ point_of (sizes z) p }
 {
-    let Some(class) = Class::of(p.class, p.least_days) else {
-        return Err(Fault::OutsideLimits);
-    };
-    let Some(band) = number_in(p.band, 1, 9) else {
-        return Err(Fault::OutsideLimits);
-    };
-    let Some(aq) = quantity_in(p.aq, 0, 300_000_000) else {
-        return Err(Fault::OutsideLimits);
-    };
-    let Some(index) = quantity_in(p.index, 0, 999_999) else {
-        return Err(Fault::OutsideLimits);
-    };
-    let Some(zone) = number_in(p.zone, 1, z.zones) else {
-        return Err(Fault::NotInBook);
-    };
-    let Some(user) = number_in(p.user, 1, z.users) else {
-        return Err(Fault::NotInBook);
-    };
+    let class = Class::of(p.class, p.least_days).ok_or(Fault::OutsideLimits)?;
+    let band = number_in(p.band, 1, 9).ok_or(Fault::OutsideLimits)?;
+    let aq = quantity_in(p.aq, 0, 300_000_000).ok_or(Fault::OutsideLimits)?;
+    let index = quantity_in(p.index, 0, 999_999).ok_or(Fault::OutsideLimits)?;
+    let zone = number_in(p.zone, 1, z.zones).ok_or(Fault::NotInBook)?;
+    let user = number_in(p.user, 1, z.users).ok_or(Fault::NotInBook)?;
     Ok(Point {
         zone,
         user,
@@ -158,10 +91,8 @@ impl<R: ShareRule + Drop> Draft<R> {
         ensures after { lists t.new ≡ new_after b (lists t.old) }
         ensures lent { Lent t.old t.new }
     {
-        let counts = counts_of(b)?;
-        if !fits(counts, t) {
-            return Err(Fault::BadTable);
-        }
+        let counts = Counts::try_from(b)?;
+        counts.fitting(t)?;
         empty(t);
         Ok(Draft {
             rule,
@@ -172,11 +103,10 @@ impl<R: ShareRule + Drop> Draft<R> {
 
     /// The point that may be added, or the first ground met.
     fn point_ground(&self, t: &Tables<'_>, p: PointTerms) -> Result<Point, Fault>
-        ensures { result ≡ point_ground (sizes self.now.counts) (drafted self.now t.now) p }
+        ensures answer { result ≡ point_ground (sizes self.now.counts) (drafted self.now t.now) p }
+        ensures room { IfOk result (λ _. (self.now.points < MAX_POINTS) × (self.now.points < length t.now.points.now)) }
     {
-        if !fits(self.counts, t) {
-            return Err(Fault::BadTable);
-        }
+        self.counts.fitting(t)?;
         let point = point_of(self.counts, p)?;
         if self.points >= MAX_POINTS {
             return Err(Fault::TooManyPoints);
@@ -202,8 +132,9 @@ impl<R: ShareRule + Drop> Draft<R> {
     pub fn start(self, t: &Tables<'_>) -> Result<Live<R>, (Draft<R>, Fault)>
         ensures { Started self (start_ground (sizes self.counts) (drafted self t.now)) result }
     {
-        if !fits(self.counts, t) {
-            return Err((self, Fault::BadTable));
+        // A refusal hands the draft back, which a closure for `map_err` would have taken.
+        if let Err(fault) = self.counts.fitting(t) {
+            return Err((self, fault));
         }
         if self.points == 0 {
             return Err((self, Fault::NoPoint));

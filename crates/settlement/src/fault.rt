@@ -1,12 +1,14 @@
 //! Why a call refuses, and which part of the book does.
 ghost use Rattle.std.specs.Prelude.{◌≡◌};
 ghost use Rattle.settlement.specs.Faults.{layer_of, number_of};
+ghost use Rattle.settlement.specs.declared.fault.Fault.TheVariants.{RegisterFull, Text};
 
 use ledger::Layer;
+use ledger::register::Full;
 use records::TextFault;
 
 /// The grounds for refusing, in the order in which a call looks for them.
-#[derive(Clone, Copy)]
+#[derive(Clone, Copy, Debug, PartialEq, Eq)]
 pub enum Fault {
     /// The text is not that of a record.
     Text(TextFault),
@@ -112,5 +114,21 @@ impl Fault {
             | Fault::ReturnsWithoutWeight => Layer::Rule,
             _ => Layer::Book,
         }
+    }
+}
+
+impl From<TextFault> for Fault {
+    ghost from_gives = { λ fault e. e ≡ Text fault };
+
+    fn from(fault: TextFault) -> Fault {
+        Fault::Text(fault)
+    }
+}
+
+impl From<Full> for Fault {
+    ghost from_gives = { λ _ e. e ≡ RegisterFull };
+
+    fn from(_full: Full) -> Fault {
+        Fault::RegisterFull
     }
 }

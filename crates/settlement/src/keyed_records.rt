@@ -11,13 +11,13 @@ use crate::fault::Fault;
 use crate::live::Live;
 use crate::recording::MAX_QUANTITY;
 use crate::rows::Point;
-use crate::shape::fits;
 use crate::tables::Tables;
+use crate::terms::{DailyQuantityTerms, StatementTerms, TradeTerms};
 use ledger::range::{number_in, quantity_in};
 use ledger::register::{Keyed, Register};
 
 /// The largest daily quantity at an exit point, in kWh.
-const MAX_DAILY: u32 = 1_000_000;
+const MAX_DAILY: u64 = 1_000_000;
 
 /// Puts a record into a register.
 fn put<R: Keyed>(slots: &mut [Option<R>], new: R) -> Result<(), Fault>
@@ -25,19 +25,17 @@ fn put<R: Keyed>(slots: &mut [Option<R>], new: R) -> Result<(), Fault>
     ensures after { slots.new ≡ put_after (R.Keyed.keyed (R.Keyed.key_of new)) new slots.old }
 {
     let mut register = Register { slots };
-    match register.put(new) {
-        Ok(()) => Ok(()),
-        Err(_) => Err(Fault::RegisterFull),
-    }
+    register.put(new)?;
+    Ok(())
 }
 
 /// Whether a point's numbers are within their limits.
 fn point_within(z: Counts, p: Point) -> bool
     ensures { result ≡ point_within (sizes z) p }
 {
-    (1 <= p.zone && p.zone <= z.zones)
-        && (1 <= p.user && p.user <= z.users)
-        && (1 <= p.band && p.band <= 9)
+    (1..=z.zones).contains(&p.zone)
+        && (1..=z.users).contains(&p.user)
+        && (1..=9).contains(&p.band)
         && p.aq <= 300_000_000
         && p.first_index <= 999_999
         && p.covered <= z.days
@@ -48,52 +46,26 @@ fn point_within(z: Counts, p: Point) -> bool
 fn row_within(z: Counts, row: Option<Point>) -> bool
     ensures { result ≡ row_within (sizes z) row }
 {
-    match row {
-        Some(p) => point_within(z, p),
-        None => false,
-    }
+    row.is_some_and(|p| point_within(z, p))
 }
 
 /// Whether a row holds a point whose class takes daily quantities.
 fn takes_daily(row: Option<Point>) -> bool
     ensures { result ≡ takes_daily_row row }
 {
-    match row {
-        Some(p) => p.class.takes_daily_quantities(),
-        None => false,
-    }
+    row.is_some_and(|p| p.class.takes_daily_quantities())
 }
 
 impl<R> Live<R> {
     /// The statement, before the register is asked.
-    fn statement_record(
-        &self,
-        t: &Tables<'_>,
-        day: i64,
-        entry: i64,
-        user: i64,
-        quantity: i64,
-    ) -> Result<Statement, Fault>
-        ensures { result ≡ statement_record (sizes self.now.counts) (held self.now t.now) day entry user quantity }
+    fn statement_record(&self, t: &Tables<'_>, terms: StatementTerms) -> Result<Statement, Fault>
+        ensures { result ≡ statement_record (sizes self.now.counts) (held self.now t.now) terms }
     {
-        if !fits(self.counts, t) {
-            return Err(Fault::BadTable);
-        }
-        let Some(quantity) = quantity_in(quantity, 0, MAX_QUANTITY) else {
-            return Err(Fault::OutsideLimits);
-        };
-        let Some(entry) = number_in(entry, 1, self.counts.entries) else {
-            return Err(Fault::NotInBook);
-        };
-        let Some(user) = number_in(user, 1, self.counts.users) else {
-            return Err(Fault::NotInBook);
-        };
-        let Some(day) = number_in(day, 0, self.counts.days - 1) else {
-            return Err(Fault::NoSuchDay);
-        };
-        if day < self.closed {
-            return Err(Fault::DayClosed);
-        }
+        self.counts.fitting(t)?;
+        let quantity = quantity_in(terms.quantity, 0, MAX_QUANTITY).ok_or(Fault::OutsideLimits)?;
+        let entry = number_in(terms.entry, 1, self.counts.entries).ok_or(Fault::NotInBook)?;
+        let user = number_in(terms.user, 1, self.counts.users).ok_or(Fault::NotInBook)?;
+        let day = self.open_day(terms.day)?;
         Ok(Statement {
             day,
             entry,
@@ -103,54 +75,28 @@ impl<R> Live<R> {
     }
 
     /// What a user states to have put in at an entry point.
-    pub fn statement(
-        &self,
-        t: &mut Tables<'_>,
-        day: i64,
-        entry: i64,
-        user: i64,
-        quantity: i64,
-    ) -> Result<(), Fault>
-        ensures answer { result ≡ told (statement_ground (sizes self.now.counts) (held self.now t.old) day entry user quantity) }
-        ensures after { held self.now t.new ≡ statement_after (sizes self.now.counts) (held self.now t.old) day entry user quantity }
+    pub fn statement(&self, t: &mut Tables<'_>, terms: StatementTerms) -> Result<(), Fault>
+        ensures answer { result ≡ told (statement_ground (sizes self.now.counts) (held self.now t.old) terms) }
+        ensures after { held self.now t.new ≡ statement_after (sizes self.now.counts) (held self.now t.old) terms }
         ensures lent { Lent t.old t.new }
     {
-        let new = self.statement_record(t, day, entry, user, quantity)?;
+        let new = self.statement_record(t, terms)?;
         put(t.statements, new)
     }
 
     /// The trade, before the register is asked.
-    fn trade_record(
-        &self,
-        t: &Tables<'_>,
-        day: i64,
-        seller: i64,
-        buyer: i64,
-        quantity: i64,
-    ) -> Result<Trade, Fault>
-        ensures { result ≡ trade_record (sizes self.now.counts) (held self.now t.now) day seller buyer quantity }
+    // No twin of `statement_record`: whether seller and buyer are one is asked between the users and the Day.
+    fn trade_record(&self, t: &Tables<'_>, terms: TradeTerms) -> Result<Trade, Fault>
+        ensures { result ≡ trade_record (sizes self.now.counts) (held self.now t.now) terms }
     {
-        if !fits(self.counts, t) {
-            return Err(Fault::BadTable);
-        }
-        let Some(quantity) = quantity_in(quantity, 0, MAX_QUANTITY) else {
-            return Err(Fault::OutsideLimits);
-        };
-        let Some(seller) = number_in(seller, 1, self.counts.users) else {
-            return Err(Fault::NotInBook);
-        };
-        let Some(buyer) = number_in(buyer, 1, self.counts.users) else {
-            return Err(Fault::NotInBook);
-        };
+        self.counts.fitting(t)?;
+        let quantity = quantity_in(terms.quantity, 0, MAX_QUANTITY).ok_or(Fault::OutsideLimits)?;
+        let seller = number_in(terms.seller, 1, self.counts.users).ok_or(Fault::NotInBook)?;
+        let buyer = number_in(terms.buyer, 1, self.counts.users).ok_or(Fault::NotInBook)?;
         if seller == buyer {
             return Err(Fault::SelfTrade);
         }
-        let Some(day) = number_in(day, 0, self.counts.days - 1) else {
-            return Err(Fault::NoSuchDay);
-        };
-        if day < self.closed {
-            return Err(Fault::DayClosed);
-        }
+        let day = self.open_day(terms.day)?;
         Ok(Trade {
             day,
             seller,
@@ -160,19 +106,12 @@ impl<R> Live<R> {
     }
 
     /// What a user sold to another.
-    pub fn trade(
-        &self,
-        t: &mut Tables<'_>,
-        day: i64,
-        seller: i64,
-        buyer: i64,
-        quantity: i64,
-    ) -> Result<(), Fault>
-        ensures answer { result ≡ told (trade_ground (sizes self.now.counts) (held self.now t.old) day seller buyer quantity) }
-        ensures after { held self.now t.new ≡ trade_after (sizes self.now.counts) (held self.now t.old) day seller buyer quantity }
+    pub fn trade(&self, t: &mut Tables<'_>, terms: TradeTerms) -> Result<(), Fault>
+        ensures answer { result ≡ told (trade_ground (sizes self.now.counts) (held self.now t.old) terms) }
+        ensures after { held self.now t.new ≡ trade_after (sizes self.now.counts) (held self.now t.old) terms }
         ensures lent { Lent t.old t.new }
     {
-        let new = self.trade_record(t, day, seller, buyer, quantity)?;
+        let new = self.trade_record(t, terms)?;
         put(t.trades, new)
     }
 
@@ -181,6 +120,7 @@ impl<R> Live<R> {
         requires { RowsInside (lists t.now) number }
         ensures { result ≡ row_readable (sizes self.now.counts) (held self.now t.now) number }
     {
+        // A closure for `is_none_or` would have to require the number's range once more.
         match number {
             Some(n) => row_within(self.counts, t.points[n as usize - 1]),
             None => true,
@@ -191,31 +131,18 @@ impl<R> Live<R> {
     fn daily_record(
         &self,
         t: &Tables<'_>,
-        day: i64,
-        point: i64,
-        quantity: i64,
+        terms: DailyQuantityTerms,
     ) -> Result<DailyQuantity, Fault>
-        ensures { result ≡ daily_record (sizes self.now.counts) (held self.now t.now) day point quantity }
+        ensures { result ≡ daily_record (sizes self.now.counts) (held self.now t.now) terms }
     {
-        if !fits(self.counts, t) {
-            return Err(Fault::BadTable);
-        }
-        let number = number_in(point, 1, self.points);
+        self.counts.fitting(t)?;
+        let number = number_in(terms.point, 1, self.points);
         if !self.row_readable(t, number) {
             return Err(Fault::BadTable);
         }
-        let Some(quantity) = quantity_in(quantity, 0, MAX_DAILY) else {
-            return Err(Fault::OutsideLimits);
-        };
-        let Some(point) = number else {
-            return Err(Fault::NotInBook);
-        };
-        let Some(day) = number_in(day, 0, self.counts.days - 1) else {
-            return Err(Fault::NoSuchDay);
-        };
-        if day < self.closed {
-            return Err(Fault::DayClosed);
-        }
+        let quantity = quantity_in(terms.quantity, 0, MAX_DAILY).ok_or(Fault::OutsideLimits)?;
+        let point = number.ok_or(Fault::NotInBook)?;
+        let day = self.open_day(terms.day)?;
         if !takes_daily(t.points[point as usize - 1]) {
             return Err(Fault::WrongClass);
         }
@@ -227,18 +154,12 @@ impl<R> Live<R> {
     }
 
     /// What a point of class 1 or 2 took.
-    pub fn daily_quantity(
-        &self,
-        t: &mut Tables<'_>,
-        day: i64,
-        point: i64,
-        quantity: i64,
-    ) -> Result<(), Fault>
-        ensures answer { result ≡ told (daily_ground (sizes self.now.counts) (held self.now t.old) day point quantity) }
-        ensures after { held self.now t.new ≡ daily_after (sizes self.now.counts) (held self.now t.old) day point quantity }
+    pub fn daily_quantity(&self, t: &mut Tables<'_>, terms: DailyQuantityTerms) -> Result<(), Fault>
+        ensures answer { result ≡ told (daily_ground (sizes self.now.counts) (held self.now t.old) terms) }
+        ensures after { held self.now t.new ≡ daily_after (sizes self.now.counts) (held self.now t.old) terms }
         ensures lent { Lent t.old t.new }
     {
-        let new = self.daily_record(t, day, point, quantity)?;
+        let new = self.daily_record(t, terms)?;
         put(t.daily_quantities, new)
     }
 }

@@ -3,7 +3,7 @@ ghost use Rattle.std.specs.Prelude.{◌≡◌};
 ghost use Rattle.settlement.specs.Classes.{class_of, least_days as days_carried, takes_daily};
 
 /// How often a point of class 4 is read: by the least days between two readings.
-#[derive(Clone, Copy)]
+#[derive(Clone, Copy, Debug, PartialEq, Eq)]
 pub enum ReadFrequency {
     Monthly,
     Annual,
@@ -11,7 +11,7 @@ pub enum ReadFrequency {
 }
 
 /// A point's class, with what the class carries.
-#[derive(Clone, Copy)]
+#[derive(Clone, Copy, Debug, PartialEq, Eq)]
 pub enum Class {
     One,
     Two,
@@ -21,6 +21,7 @@ pub enum Class {
 
 impl Class {
     /// The class by its number and the least days, where they go together.
+    // No `TryFrom`, which would convert a pair of numbers that is no value of its own.
     pub fn of(class: i64, least_days: i64) -> Option<Class>
         ensures { result ≡ class_of class least_days }
     {
@@ -60,7 +61,7 @@ impl Class {
 }
 
 /// An exit point.
-#[derive(Clone, Copy)]
+#[derive(Clone, Copy, Debug, PartialEq, Eq)]
 pub struct Point {
     pub zone: u16,
     /// The registered user.
@@ -78,7 +79,7 @@ pub struct Point {
 }
 
 /// A zone's weather on a Day.
-#[derive(Clone, Copy)]
+#[derive(Clone, Copy, Debug, PartialEq, Eq)]
 pub struct Weather {
     /// The calorific value, in tenths of MJ per cubic metre.
     pub cv: u64,
@@ -87,14 +88,14 @@ pub struct Weather {
 }
 
 /// A band's demand profile on a Day, in thousandths.
-#[derive(Clone, Copy)]
+#[derive(Clone, Copy, Debug, PartialEq, Eq)]
 pub struct Profile {
     pub alp: u64,
     pub daf: i64,
 }
 
 /// A user's figures in a zone on a Day.
-#[derive(Clone, Copy)]
+#[derive(Clone, Copy, Debug, Default, PartialEq, Eq)]
 pub struct ZoneFigures {
     pub output: u64,
     /// The adjusted output, which gives weights.
@@ -103,7 +104,7 @@ pub struct ZoneFigures {
 }
 
 /// A user's balance on a Day.
-#[derive(Clone, Copy)]
+#[derive(Clone, Copy, Debug, Default, PartialEq, Eq)]
 pub struct Balance {
     /// Trades bought less trades sold.
     pub traded: i64,
@@ -111,7 +112,7 @@ pub struct Balance {
 }
 
 /// A user's figures in a zone and month.
-#[derive(Clone, Copy)]
+#[derive(Clone, Copy, Debug, Default, PartialEq, Eq)]
 pub struct MonthFigures {
     pub reconciled: i64,
     pub returned: i64,

@@ -2,6 +2,7 @@
 use crate::day_records::{DailyQuantity, Statement, Trade};
 use crate::rows::{Balance, MonthFigures, Point, Profile, Weather, ZoneFigures};
 
+// That the same slices are still lent after a call ties two moments, so each contract says it, and no invariant.
 /// Slices of any length, with anything in them. A table has one row for each combination of the things that index it.
 #[derive(Drop)]
 pub struct Tables<'a> {

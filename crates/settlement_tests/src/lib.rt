@@ -2,6 +2,8 @@
 #![tactic(auto)]
 
 #[cfg(test)]
+mod brings;
+#[cfg(test)]
 mod daily_quantities;
 #[cfg(test)]
 mod new_book;

@@ -1,13 +1,15 @@
 //! A caller that owns the tables.
 use settlement::{
-    Balance, BookTerms, Class, DailyQuantity, Fault, MonthFigures, Point, Profile, Statement,
-    Tables, Trade, Weather, ZoneFigures,
+    Balance, BookTerms, Class, DailyQuantity, MonthFigures, Point, Profile, Statement, Tables,
+    Trade, Weather, ZoneFigures,
 };
 use std::alloc::{AllocError, Global};
 
 /// How many rows each table has: the twelve tables in their order, then the three registers.
+// numbers by place, and no struct, since a test shortens one table after the other
 pub(crate) type Lengths = [usize; 15];
 
+// apart from the program's store, since one struct for both would be library code that takes memory from the heap
 #[derive(Drop)]
 pub(crate) struct Owner {
     pub(crate) points: Vec<Option<Point>>,
@@ -39,20 +41,10 @@ impl Owner {
             inputs: vec![in heap; 0; n[5]]?,
             outputs: vec![in heap; 0; n[6]]?,
             prevailing: vec![in heap; 0; n[7]]?,
-            zone_figures: vec![in heap; ZoneFigures {
-                output: 0,
-                adjusted: 0,
-                unidentified: 0
-            }; n[8]]?,
-            balances: vec![in heap; Balance {
-                traded: 0,
-                imbalance: 0
-            }; n[9]]?,
+            zone_figures: vec![in heap; ZoneFigures::default(); n[8]]?,
+            balances: vec![in heap; Balance::default(); n[9]]?,
             reconciliations: vec![in heap; 0; n[10]]?,
-            months: vec![in heap; MonthFigures {
-                reconciled: 0,
-                returned: 0
-            }; n[11]]?,
+            months: vec![in heap; MonthFigures::default(); n[11]]?,
             statements: vec![in heap; None; n[12]]?,
             daily_quantities: vec![in heap; None; n[13]]?,
             trades: vec![in heap; None; n[14]]?,
@@ -138,14 +130,6 @@ impl Owner {
             daily_quantities: &mut self.daily_quantities,
             trades: &mut self.trades,
         }
-    }
-}
-
-/// 0, or the number of the refusal.
-pub(crate) fn number<T: Drop>(answer: Result<T, Fault>) -> u8 {
-    match answer {
-        Ok(_) => 0,
-        Err(fault) => fault.number(),
     }
 }
 

@@ -4,6 +4,7 @@ use settlement::{
     ZoneFigures,
 };
 
+// by hand: a derived Hash would stand in the library, for these tests alone
 pub(crate) trait Row: Copy {
     fn print(self) -> u64;
 }
@@ -128,11 +129,8 @@ impl Row for Trade {
 }
 
 fn rows<T: Row>(first: u64, xs: &[T]) -> u64 {
-    let mut print = mixed(first, 11);
-    for x in xs {
-        print = mixed(print, x.print());
-    }
-    print
+    xs.iter()
+        .fold(mixed(first, 11), |print, x| mixed(print, x.print()))
 }
 
 fn record_rows(t: &Tables<'_>) -> u64 {
@@ -163,14 +161,14 @@ pub(crate) fn print(t: &Tables<'_>) -> u64 {
 
 /// What a row holds.
 pub(crate) fn at<T: Copy>(xs: &[T], row: usize) -> Option<T> {
-    if row < xs.len() { Some(xs[row]) } else { None }
+    xs.get(row).copied()
 }
 
 /// Writes a row from outside.
 pub(crate) fn write<T: Copy>(xs: &mut [T], row: usize, x: Option<T>) {
-    if let Some(x) = x {
-        if row < xs.len() {
-            xs[row] = x;
-        }
+    if let Some(x) = x
+        && let Some(place) = xs.get_mut(row)
+    {
+        *place = x;
     }
 }

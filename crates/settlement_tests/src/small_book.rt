@@ -1,7 +1,9 @@
-//! A small book that is started, and a call on it that says which row it may change.
-use crate::owner::{Lengths, number, terms};
+//! A small book, and records that it is brought.
+use crate::brings::{Answer, Brought, brings_all};
+use crate::owner::{Lengths, Owner, terms};
 use ledger::RunningRule;
 use settlement::{Draft, Live, PointTerms, Tables};
+use std::alloc::Global;
 use std::process::Abort;
 use std::test::Fail;
 
@@ -26,42 +28,34 @@ pub(crate) fn point(zone: i64, user: i64, class: i64, least_days: i64) -> PointT
     }
 }
 
+pub(crate) fn draft(t: &mut Tables<'_>) -> Result<Draft<RunningRule>, Fail> {
+    Draft::new(RunningRule, t, terms(2023, 2, 3, 4, 3, 2)).map_err(|_| Fail::new("no draft"))
+}
+
 /// Points 1 to 4 of classes 1 to 4, and the start.
 pub(crate) fn small_book(rt: &impl Abort, t: &mut Tables<'_>) -> Result<Live<RunningRule>, Fail> {
-    let Ok(mut draft) = Draft::new(RunningRule, t, terms(2023, 2, 3, 4, 3, 2)) else {
-        return Err(Fail::new("no draft"));
-    };
+    let mut draft = draft(t)?;
     for (zone, user, class, least_days) in [
         (1, 1, 1, 0),
         (2, 2, 2, 0),
         (1, 3, 3, 1),
         (2, 4, 4, 7),
     ] {
-        assert_eq!(rt;
-            number(draft.point(t, point(zone, user, class, least_days))),
-            0
-        );
+        assert!(rt; draft.point(t, point(zone, user, class, least_days)).is_ok());
     }
-    match draft.start(t) {
-        Ok(live) => Ok(live),
-        Err(_) => Err(Fail::new("not started")),
-    }
+    draft.start(t).map_err(|_| Fail::new("not started"))
 }
 
-/// Makes a call, sees that it is answered so and that nothing changed but, where it is accepted, one row, and gives the row.
-macro_rules! row_after {
-    ($rt:expr, $t:expr, $table:ident, $row:expr, $call:expr, $answer:expr) => {{
-        let before = print($t);
-        let old = at($t.$table, $row);
-        assert_eq!($rt; number($call), $answer);
-        let new = at($t.$table, $row);
-        if $answer == 0 {
-            write($t.$table, $row, old);
-        }
-        assert_eq!($rt; print($t), before);
-        write($t.$table, $row, new);
-        new
-    }};
+/// Brings records to a new small book over tables of these lengths.
+pub(crate) fn run<B: Brought<Book = Live<RunningRule>>>(
+    rt: &impl Abort,
+    heap: Global,
+    lengths: Lengths,
+    rows: &[(B, Answer, usize)],
+) -> Result<(), Fail> {
+    let mut owner = Owner::empty(heap, lengths)?;
+    let mut t = owner.tables();
+    let mut live = small_book(rt, &mut t)?;
+    brings_all(rt, &mut live, &mut t, rows);
+    Ok(())
 }
-
-pub(crate) use row_after;

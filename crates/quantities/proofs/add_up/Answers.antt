@@ -1,18 +1,16 @@
-use Rattle.std.proofs.Common.{◌+◌, ap, ◌∙◌, arith, take_all}
+use Rattle.std.proofs.Common.{rules, ◌≡◌, pos, ◌+ℤ◌, ◌∙◌, to_z, of_z, w64, arith}
+use Rattle.std.proofs.iter.runs.Made.{chains}
 use Rattle.std.proofs.lemmas.Int.{ints}
-use Rattle.ledger.specs.Laws.{sumℤ}
-use Rattle.ledger.proofs.SameSide.{sum_more}
+use Rattle.std.proofs.lemmas.Iterator.{YieldsList-from_slice}
+use Rattle.std.proofs.lemmas.Iterator.Consumers.{YieldsList-from_copied}
+use Rattle.std.specs.List.{fold}
+use Rattle.quantities.proofs.Added.{fold_is_sum, sum_fits}
 use Rattle.quantities.proofs.add_up.Goals as goal
 
-pub overflow_add-sum : goal.overflow_add-sum
-overflow_add-sum c =
-    let i = c.loop-x.x-index in
-    omega (arith, ints, c.loop-x.invariant, c.requires (i + 1), sum_more c.args.column.now i c.loop-x-test.true)
-
-pub loop-x-preserved : goal.loop-x-preserved
-loop-x-preserved c =
-    let i = c.loop-x.x-index in
-    omega (arith, ints, c.loop-x.invariant, c.requires (i + 1), sum_more c.args.column.now i c.loop-x-test.true)
+pub sum-requires-clause-fits : goal.sum-requires-clause-fits
+sum-requires-clause-fits c = sum_fits (YieldsList-from_copied (YieldsList-from_slice c.args.column.now cc)) c.requires
 
 pub returns : goal.returns
-returns c = c.loop-x.invariant ∙ ap sumℤ (take_all c.loop-x.x-index c.args.column.now c.loop-x-test.false)
+returns c =
+    let e : to_z w64 (of_z w64 c.sum.result) ≡ fold ◌+ℤ◌ (pos 0) c.args.column.now = search (rules, chains) in
+    e ∙ fold_is_sum (pos 0) c.args.column.now ∙ omega (arith, ints)

@@ -7,6 +7,7 @@ ghost use Rattle.records.specs.Progress.{Begun, Moved, left, line_at};
 use super::Reader;
 use crate::body::{Taken, next_record};
 use crate::fault::TextFault;
+use crate::lines::Lines;
 
 impl<'t> Reader<'t> {
     /// A reader at the beginning of a text.
@@ -20,15 +21,25 @@ impl<'t> Reader<'t> {
         }
     }
 
+    /// The lines that are left.
+    fn lines_left(&self) -> Lines<'t>
+        ensures text { result.text.now ≡ left self.now }
+        ensures line { result.line ≡ line_at self.now }
+    {
+        let text = self.text;
+        Lines {
+            text: &text[self.bytes..],
+            line: self.lines + 1,
+        }
+    }
+
     /// The next record, if anything is left. At a fault the reader stays where it is.
     pub fn next(&mut self) -> Result<Option<Taken>, TextFault>
         ensures answer { result ≡ next_of (left self.old) (line_at self.old) }
         ensures exact { Exactly (left self.old) (line_at self.old) result }
         ensures moved { Moved result self.old self.new }
     {
-        let text = self.text;
-        let bytes = self.bytes;
-        let Some(taken) = next_record(&text[bytes..], self.lines + 1)? else {
+        let Some(taken) = next_record(self.lines_left())? else {
             return Ok(None);
         };
         self.bytes += taken.bytes;

@@ -1,7 +1,12 @@
-use Rattle.std.proofs.Common.{take, drop}
-use Rattle.records.specs.Outcome.{sights}
-use Rattle.records.proofs.Steps.{Read}
+use Rattle.std.proofs.Common.{◌≡◌, ◌++◌, drop, map}
+use Rattle.records.specs.Outcome.{amount, bad_value, sights}
 use Rattle.records.proofs.body.numbers.Given as goal
 
-abbrev pub invariant-loop-i : goal.invariant-loop-i
-invariant-loop-i l = Read (sights l.lines) (sights (drop l.i l.lines)) (take l.i l.out)
+-- the first values are read: the values that are left say what all values say
+abbrev pub invariant-loop-field : goal.invariant-loop-field
+invariant-loop-field l =
+    let left = sights (drop l.field-index l.fields) in
+    record {
+      valued : bad_value left ≡ bad_value (sights l.fields);
+      numbered : l.found.items ++ map amount left ≡ map amount (sights l.fields);
+    }

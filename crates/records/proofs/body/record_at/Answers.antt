@@ -1,4 +1,4 @@
-use Rattle.std.proofs.Common.{◌≡◌, ℕ, ◌+◌, ◌-◌, length, Ok, Result, sym, ap, ◌∙◌, arith}
+use Rattle.std.proofs.Common.{◌≡◌, ℕ, ◌+◌, length, Ok, Result, sym, ◌∙◌, arith}
 use Rattle.records.specs.Format.{keys, kind_of, written}
 use Rattle.records.specs.Outcome.{taken}
 use Rattle.records.specs.declared.body.Taken.{Taken}
@@ -12,12 +12,10 @@ same r n m l p q = cc
 
 pub overflow_sub-result : goal.overflow_sub-result
 overflow_sub-result c =
-    let w = next_read c.args.text.now c.args.line c.in_ok-kind.kind c.in_ok-kind.rest.now c.in_ok-read.left.now c.in_ok-read.read c.in_ok-kind.ensures c.in_ok-read.ensures in
+    let w = next_read c.args.lines.text.now c.args.lines.line c.in_ok-kind.kind c.in_ok-kind.rest.text.now c.in_ok-read.left.text.now c.in_ok-kind.rest.line c.in_ok-read.left.line c.in_ok-read.read c.in_ok-kind.ensures c.in_ok-read.ensures in
     omega arith
 
 pub returns : goal.returns
 returns c =
-    let w = next_read c.args.text.now c.args.line c.in_ok-kind.kind c.in_ok-kind.rest.now c.in_ok-read.left.now c.in_ok-read.read c.in_ok-kind.ensures c.in_ok-read.ensures in
-    let k = c.keys.ensures.count ∙ ap (λ x. length (keys x)) (sym w.1) in
-    let b : length c.args.text.now - length c.in_ok-read.left.now ≡ length (written c.in_ok-read.read) = omega arith in
-    same c.in_ok-read.read c.args.line _ _ b (ap (λ x. 1 + x) k) ∙ sym w.2
+    let w = next_read c.args.lines.text.now c.args.lines.line c.in_ok-kind.kind c.in_ok-kind.rest.text.now c.in_ok-read.left.text.now c.in_ok-kind.rest.line c.in_ok-read.left.line c.in_ok-read.read c.in_ok-kind.ensures c.in_ok-read.ensures in
+    same c.in_ok-read.read c.args.lines.line _ _ (omega arith) (omega arith) ∙ sym w.2

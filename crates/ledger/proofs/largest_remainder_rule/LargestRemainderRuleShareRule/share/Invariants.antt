@@ -4,4 +4,4 @@ use Rattle.ledger.specs.Largest.{portions}
 use Rattle.ledger.proofs.largest_remainder_rule.LargestRemainderRuleShareRule.share.Given as goal
 
 abbrev pub invariant-loop-i : goal.invariant-loop-i
-invariant-loop-i l = take l.i l.out ≡ take l.i (map (signed l.total) (portions l.size l.divisor l.weights))
+invariant-loop-i l = take l.i l.out ≡ take l.i (map (signed l.total) (portions l.division.size l.division.divisor l.weights))
