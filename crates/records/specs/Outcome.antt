@@ -80,13 +80,13 @@ Kinded t (Err e) = outcome t.text.now t.line ≡ Err e
 abbrev pub sights : List Field → List (ℕ × List ℕ)
 sights fs = map seen fs
 
-abbrev pub Fields : List (List ℕ) → Lines → Result (ArrayVec Field × Lines) TextFault → Type 0
-Fields ks t (Ok p) = (bad_key ks t.text.now t.line ≡ None) × (sights p.0.items ≡ values ks t.text.now t.line) × (p.1.text.now ≡ past ks t.text.now) × (p.1.line ≡ t.line + length ks)
-Fields ks t (Err e) = (m : ℕ) × (bad_key ks t.text.now t.line ≡ Some m) × (e ≡ WrongKey m)
+abbrev pub Fields : List (List ℕ) → Lines → ArrayVec Field → Result Lines TextFault → Type 0
+Fields ks t found (Ok p) = (bad_key ks t.text.now t.line ≡ None) × (sights found.items ≡ values ks t.text.now t.line) × (p.text.now ≡ past ks t.text.now) × (p.line ≡ t.line + length ks)
+Fields ks t found (Err e) = (m : ℕ) × (bad_key ks t.text.now t.line ≡ Some m) × (e ≡ WrongKey m)
 
-abbrev pub Numbers : List (ℕ × List ℕ) → Result (ArrayVec ℤ) TextFault → Type 0
-Numbers vs (Ok found) = (bad_value vs ≡ None) × (found.items ≡ map amount vs)
-Numbers vs (Err e) = (m : ℕ) × (bad_value vs ≡ Some m) × (e ≡ MalformedValue m)
+abbrev pub Numbers : List (ℕ × List ℕ) → ArrayVec ℤ → Result (Unit {0}) TextFault → Type 0
+Numbers vs found (Ok x) = (bad_value vs ≡ None) × (found.items ≡ map amount vs)
+Numbers vs found (Err e) = (m : ℕ) × (bad_value vs ≡ Some m) × (e ≡ MalformedValue m)
 
 abbrev pub Body : Kind → Lines → Result (Record × Lines) TextFault → Type 0
 Body k t (Ok p) = (read_as k t.text.now t.line ≡ Ok p.0) × (p.1.text.now ≡ past (keys k) t.text.now) × (p.1.line ≡ t.line + length (keys k))

@@ -1,5 +1,5 @@
 //! A record from its lines.
-ghost use Rattle.std.specs.Prelude.{◌≡◌, ◌≤◌, length};
+ghost use Rattle.std.specs.Prelude.{◌≡◌, ◌≤◌, [], length};
 ghost use Rattle.records.specs.Exact.{Exactly};
 ghost use Rattle.records.specs.Outcome.{Body, Numbers, next_of, outcome, sights};
 
@@ -19,25 +19,27 @@ pub struct Taken {
     pub lines: usize,
 }
 
-/// The numbers that the values of these lines write.
-fn numbers(fields: &[Field<'_>]) -> Result<ArrayVec<i64, MOST_KEYS>, TextFault>
-    requires { length fields.now ≤ MOST_KEYS }
-    ensures { Numbers (sights fields.now) result }
+/// Lists the numbers that the values of these lines write.
+fn numbers(fields: &[Field<'_>], found: &mut ArrayVec<i64, MOST_KEYS>) -> Result<(), TextFault>
+    requires few { length fields.now ≤ MOST_KEYS }
+    requires none { found.old.items ≡ [] }
+    ensures { Numbers (sights fields.now) found.new result }
 {
-    let mut found = ArrayVec::new();
     for field in fields {
         let fault = TextFault::MalformedValue { line: field.line() };
         found.push(number(field.value()).ok_or(fault)?);
     }
-    Ok(found)
+    Ok(())
 }
 
 /// The record of a kind, from the lines after the first, and the lines after it.
 fn body(lines: Lines<'_>, kind: Kind) -> Result<(Record, Lines<'_>), TextFault>
     ensures { Body kind lines.entry result }
 {
-    let (fields, rest) = lines.fields(kind.keys())?;
-    let found = numbers(&fields)?;
+    let mut fields = ArrayVec::new();
+    let mut found = ArrayVec::new();
+    let rest = lines.fields(kind.keys(), &mut fields)?;
+    numbers(&fields, &mut found)?;
     Ok((Record::of(kind, &found), rest))
 }
 

@@ -41,6 +41,8 @@ impl<R> Live<R> {
     }
 
     /// The row of a measurement at one of so many entry points or zones, and the quantity.
+    // Inlined at both its callers: a call would cost a measurement more than the tests that they share.
+    #[inline(always)]
     fn measurement_ground(
         &self,
         t: &Tables<'_>,

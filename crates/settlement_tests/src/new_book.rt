@@ -3,7 +3,7 @@ use crate::brings::Answer;
 use crate::owner::{Lengths, Owner, terms};
 use crate::prints::print;
 use ledger::RunningRule;
-use settlement::{BookTerms, Draft, Fault, MonthFigures, ZoneFigures};
+use settlement::{BookTerms, Draft, Fault};
 use std::alloc::Global;
 use std::process::Abort;
 use std::test::Fail;
@@ -115,12 +115,14 @@ fn every_row_is_emptied(rt: HostRuntime) -> Result<(), Fail> {
     assert!(rt; owner.points.iter().all(|point| point.is_none()));
     assert!(rt; owner.prevailing.iter().all(|quantity| *quantity == 0));
     assert!(rt;
-        owner
-            .zone_figures
-            .iter()
-            .all(|f| *f == ZoneFigures::default())
+        owner.zone_figures.iter().all(|f| f.output == 0 && f.adjusted == 0 && f.unidentified == 0)
     );
-    assert!(rt; owner.months.iter().all(|f| *f == MonthFigures::default()));
+    assert!(rt;
+        owner
+            .months
+            .iter()
+            .all(|f| f.reconciled == 0 && f.returned == 0)
+    );
     assert!(rt; owner.trades.iter().all(|trade| trade.is_none()));
     Ok(())
 }

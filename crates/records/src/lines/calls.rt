@@ -1,5 +1,5 @@
 //! How the lines of a text are taken off, one by one.
-ghost use Rattle.std.specs.Prelude.{◌≡◌, ◌≤◌, length};
+ghost use Rattle.std.specs.Prelude.{◌≡◌, ◌≤◌, [], length};
 ghost use Rattle.records.specs.Lines.{Keyed, Parted, texts};
 ghost use Rattle.records.specs.Outcome.{Fields, Kinded};
 
@@ -57,21 +57,23 @@ impl<'t> Lines<'t> {
         Ok((kind, rest))
     }
 
-    /// The lines with these keys, and the lines after them.
+    /// Lists the lines with these keys, and gives the lines after them.
+    // The list is lent, since one that is handed out is copied several times on its way.
     pub(crate) fn fields(
         self,
         keys: &[&[u8]],
-    ) -> Result<(ArrayVec<Field<'t>, MOST_KEYS>, Lines<'t>), TextFault>
-        requires { length keys.now ≤ MOST_KEYS }
-        ensures { Fields (texts keys.now) self.entry result }
+        found: &mut ArrayVec<Field<'t>, MOST_KEYS>,
+    ) -> Result<Lines<'t>, TextFault>
+        requires few { length keys.now ≤ MOST_KEYS }
+        requires none { found.old.items ≡ [] }
+        ensures { Fields (texts keys.now) self.entry found.new result }
     {
-        let mut found = ArrayVec::new();
         let mut rest = self;
         for key in keys {
             let (field, after) = rest.keyed_field(key)?;
             found.push(field);
             rest = after;
         }
-        Ok((found, rest))
+        Ok(rest)
     }
 }
