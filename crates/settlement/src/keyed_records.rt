@@ -20,7 +20,7 @@ use ledger::register::{Keyed, Register};
 const MAX_DAILY: u64 = 1_000_000;
 
 /// Puts a record into a register.
-// A function of its own in the program: inlined into its main loop, the scans of a full register took a third longer.
+// Not inlined: as part of the program's main loop, scans of a full register were seen to take about a third longer.
 #[inline(never)]
 fn put<R: Keyed>(slots: &mut [Option<R>], new: R) -> Result<(), Fault>
     ensures answer { result ≡ put_told (R.Keyed.keyed (R.Keyed.key_of new)) slots.old }
